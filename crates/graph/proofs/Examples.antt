@@ -1,0 +1,79 @@
+-- Small graphs, counted by computing, and graphs for which the hypotheses of the counting theorem and of the bound are met. Assumes nothing.
+use mathlib.Core.Path.{_≡_, refl}
+use mathlib.Core.List.{[], _∷_}
+use Prim.Native.Nat.{ℕ, zero, suc, _-_, _^_, _≤_, _<_, zero-le}
+use native.Mathlib.Omega.{arith}
+use lib.ListN.{getD}
+use Rattle.sums.specs.Sum.{sum, delta}
+use Rattle.graph.specs.Graph.{Exactly, Path, Cycle, Acyclic}
+use Rattle.graph.specs.Count.{walks, pathCount}
+use Rattle.graph.proofs.Peeling.{order-acyclic}
+use Rattle.graph.proofs.Counting.{exactly}
+
+-- ---- from 0 to 1 and 2, and from each of these to 3
+
+diamond : ℕ → ℕ → ℕ
+diamond i j = getD (getD ((0 ∷ 1 ∷ 1 ∷ 0 ∷ []) ∷ (0 ∷ 0 ∷ 0 ∷ 1 ∷ []) ∷ (0 ∷ 0 ∷ 0 ∷ 1 ∷ []) ∷ []) i []) j 0
+
+diamond-across : pathCount 4 diamond 0 3 ≡ 2
+unfolding diamond pathCount walks sum delta
+diamond-across = refl
+
+diamond-back : pathCount 4 diamond 3 0 ≡ 0
+unfolding diamond pathCount walks sum delta
+diamond-back = refl
+
+diamond-self : pathCount 4 diamond 1 1 ≡ 1
+unfolding diamond pathCount walks sum delta
+diamond-self = refl
+
+-- ---- two edges from 0 to 1 and three from 1 to 2: each choice of edges counts
+
+parallel : ℕ → ℕ → ℕ
+parallel i j = getD (getD ((0 ∷ 2 ∷ []) ∷ (0 ∷ 0 ∷ 3 ∷ []) ∷ []) i []) j 0
+
+parallel-across : pathCount 3 parallel 0 2 ≡ 6
+unfolding parallel pathCount walks sum delta
+parallel-across = refl
+
+-- ---- an edge from 0 to itself is a cycle
+
+loop-cycle : Cycle 1 (λ i j. 1)
+loop-cycle = record { at = 0; next = 0; rest = []; bounded = omega arith; back = (omega arith, omega arith, refl) }
+
+-- ---- the complete graph: an edge from each vertex to each greater one
+
+complete : ℕ → ℕ → ℕ
+complete i zero = 0
+complete zero (suc j) = 1
+complete (suc i) (suc j) = complete i j
+
+complete-lt : (i j : ℕ) → 0 < complete i j → i < j
+unfolding complete
+complete-lt i zero h = absurd (omega arith)
+complete-lt zero (suc j) h = omega arith
+complete-lt (suc i) (suc j) h = omega (arith, complete-lt i j h)
+
+complete-le : (i j : ℕ) → complete i j ≤ 1
+unfolding complete
+complete-le i zero = zero-le
+complete-le zero (suc j) = omega arith
+complete-le (suc i) (suc j) = complete-le i j
+
+-- its vertices in descending order: each edge leads to an earlier one
+complete-acyclic : (n : ℕ) → Acyclic n complete
+complete-acyclic n =
+    order-acyclic n complete n (λ m. n - 1 - m)
+    record {
+      vertex = λ m h. omega arith;
+      earlier = λ m h b hb p. (n - 1 - b, omega (arith, complete-lt (n - 1 - m) b p), omega arith);
+    }
+    (λ i h. (n - 1 - i, omega arith, omega arith))
+
+complete-count : pathCount 5 complete 0 4 ≡ 8
+unfolding complete pathCount walks sum delta
+complete-count = refl
+
+-- it has as many paths as `bound` of proofs/Bound.antt allows
+complete-exactly : Exactly (Path 5 complete 0 4) (2 ^ (5 - 2))
+complete-exactly = rw complete-count at (exactly 5 complete (complete-acyclic 5) (λ i j hi hj. complete-le i j) 0 4 (omega arith))

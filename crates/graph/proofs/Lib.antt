@@ -1,0 +1,9 @@
+pub mod Lists
+pub mod Pigeon
+pub mod Walks
+pub mod Deep
+pub mod Peeling
+pub mod Recurrence
+pub mod Counting
+pub mod Bound
+pub mod Examples

@@ -1,0 +1,183 @@
+-- Lists put together from lists: what is in them, how long they are, and when their entries all differ. With that, what `Exactly` pins down.
+-- Assumes nothing.
+use mathlib.Core.Path.{_≡_, refl, sym, ap, _∙_}
+use mathlib.Core.Logic.{_⊎_, inl, inr}
+use mathlib.Core.List.{List, [], _∷_, _++_}
+use Prim.Native.Nat.{ℕ, zero, suc, _+_, _≤_, _<_, zero-le}
+use native.Mathlib.Decide.{ℕ-discrete}
+use native.Mathlib.Omega.{arith}
+use lib.ListN.{length, length-append}
+use Rattle.sums.specs.Sum.{sum}
+use Rattle.graph.specs.Graph.{_isIn_, Distinct, Exactly}
+
+pub in? : (x : ℕ) (l : List ℕ) → Dec (x isIn l)
+in? x [] = no (λ m. m)
+in? x (y ∷ l) =
+    elim (ℕ-discrete x y) [
+      | yes e ↦ yes (inl e)
+      | no d ↦ elim (in? x l) [ yes m ↦ yes (inr m) | no h ↦ no (λ m. elim m [ inl e ↦ d e | inr q ↦ h q ]) ]
+    ]
+
+module _ {A : Type 0} where
+  -- ---- one list after another
+
+  pub in-left : (x : A) (s t : List A) → x isIn s → x isIn (s ++ t)
+  in-left x [] t m = absurd m
+  in-left x (y ∷ s) t (inl e) = inl e
+  in-left x (y ∷ s) t (inr m) = inr (in-left x s t m)
+
+  pub in-right : (x : A) (s t : List A) → x isIn t → x isIn (s ++ t)
+  in-right x [] t m = m
+  in-right x (y ∷ s) t m = inr (in-right x s t m)
+
+  pub in-either : (x : A) (s t : List A) → x isIn (s ++ t) → (x isIn s) ⊎ (x isIn t)
+  in-either x [] t m = inr m
+  in-either x (y ∷ s) t (inl e) = inl (inl e)
+  in-either x (y ∷ s) t (inr m) = elim (in-either x s t m) [ inl p ↦ inl (inr p) | inr p ↦ inr p ]
+
+  pub append-distinct : (s t : List A) → Distinct s → Distinct t → ((x : A) → x isIn s → x isIn t → ⊥) → Distinct (s ++ t)
+  append-distinct [] t d e h = e
+  append-distinct (y ∷ s) t d e h =
+      (λ m. elim (in-either y s t m) [ inl p ↦ d .0 p | inr p ↦ h y (inl refl) p ], append-distinct s t (d .1) e (λ x p q. h x (inr p) q))
+
+  -- ---- f 0, f 1, .., f (n - 1), one after another
+
+  unfoldable pub gather : ℕ → (ℕ → List A) → List A
+  gather zero f = []
+  gather (suc n) f = gather n f ++ f n
+
+  pub gather-in : (n : ℕ) (f : ℕ → List A) (x : A) (b : ℕ) → b < n → x isIn f b → x isIn gather n f
+  unfolding gather
+  gather-in zero f x b h m = absurd (omega arith)
+  gather-in (suc n) f x b h m =
+      elim (ℕ-discrete b n) [
+        | yes e ↦ in-right x (gather n f) (f n) (rw e at m)
+        | no d ↦ in-left x (gather n f) (f n) (gather-in n f x b (omega arith) m)
+      ]
+
+  pub gather-of : (n : ℕ) (f : ℕ → List A) (x : A) → x isIn gather n f → (b : ℕ) × (b < n) × (x isIn f b)
+  unfolding gather
+  gather-of zero f x m = absurd m
+  gather-of (suc n) f x m =
+      elim (in-either x (gather n f) (f n) m) [
+        | inl p ↦ let r = gather-of n f x p in (r .0, omega arith, r .2)
+        | inr p ↦ (n, omega arith, p)
+      ]
+
+  pub gather-distinct : (n : ℕ) (f : ℕ → List A) → ((b : ℕ) → b < n → Distinct (f b)) → ((b c : ℕ) (x : A) → x isIn f b → x isIn f c → b ≡ c) → Distinct (gather n f)
+  unfolding gather
+  gather-distinct zero f h g = tt
+  gather-distinct (suc n) f h g =
+      append-distinct (gather n f) (f n) (gather-distinct n f (λ b p. h b (omega arith)) g) (h n (omega arith))
+      (λ x p q. let r = gather-of n f x p in omega (arith, r .1, g (r .0) n x (r .2) q))
+
+  pub gather-length : (n : ℕ) (f : ℕ → List A) → length (gather n f) ≡ sum n (λ b. length (f b))
+  unfolding gather sum
+  gather-length zero f = refl
+  gather-length (suc n) f = length-append (gather n f) (f n) ∙ ap (λ x. x + length (f n)) (gather-length n f)
+
+  -- ---- a list where P holds, and nothing where it does not
+
+  unfoldable pub when : {P : Type 0} → Dec P → List A → List A
+  when (yes p) l = l
+  when (no d) l = []
+
+  pub when-in : {P : Type 0} (d : Dec P) (l : List A) (x : A) → P → x isIn l → x isIn when d l
+  unfolding when
+  when-in (yes p) l x h m = m
+  when-in (no d) l x h m = absurd (d h)
+
+  pub when-of : {P : Type 0} (d : Dec P) (l : List A) (x : A) → x isIn when d l → P × (x isIn l)
+  unfolding when
+  when-of (yes p) l x m = (p, m)
+  when-of (no d) l x m = absurd m
+
+  pub when-distinct : {P : Type 0} (d : Dec P) (l : List A) → Distinct l → Distinct (when d l)
+  unfolding when
+  when-distinct (yes p) l h = h
+  when-distinct (no d) l h = tt
+
+  -- ---- a before each list of a list of lists
+
+  unfoldable pub each : A → List (List A) → List (List A)
+  each a [] = []
+  each a (y ∷ l) = (a ∷ y) ∷ each a l
+
+  pub each-in : (a : A) (y : List A) (l : List (List A)) → y isIn l → (a ∷ y) isIn each a l
+  unfolding each
+  each-in a y [] m = m
+  each-in a y (z ∷ l) (inl e) = inl (ap (λ t. a ∷ t) e)
+  each-in a y (z ∷ l) (inr m) = inr (each-in a y l m)
+
+  pub each-of : (a : A) (x : List A) (l : List (List A)) → x isIn each a l → (y : List A) × (x ≡ a ∷ y) × (y isIn l)
+  unfolding each
+  each-of a x [] m = absurd m
+  each-of a x (z ∷ l) (inl e) = (z, e, inl refl)
+  each-of a x (z ∷ l) (inr m) = let r = each-of a x l m in (r .0, r .1, inr (r .2))
+
+  pub each-distinct : (a : A) (l : List (List A)) → Distinct l → Distinct (each a l)
+  unfolding each
+  each-distinct a [] d = tt
+  each-distinct a (z ∷ l) d =
+      (λ m. let r = each-of a (a ∷ z) l m in let e : r .0 ≡ z = cc (r .1) in d .0 (rw e at (r .2)), each-distinct a l (d .1))
+
+  pub each-length : (a : A) (l : List (List A)) → length (each a l) ≡ length l
+  unfolding each
+  each-length a [] = refl
+  each-length a (z ∷ l) = ap suc (each-length a l)
+
+  -- ---- t without x, where x is in it
+
+  pub without : (x : A) (t : List A) → x isIn t → List A
+  without x [] m = []
+  without x (y ∷ t) (inl e) = t
+  without x (y ∷ t) (inr m) = y ∷ without x t m
+
+  pub without-length : (x : A) (t : List A) (m : x isIn t) → length t ≡ suc (length (without x t m))
+  unfolding without
+  without-length x [] m = absurd m
+  without-length x (y ∷ t) (inl e) = refl
+  without-length x (y ∷ t) (inr m) = ap suc (without-length x t m)
+
+  pub without-in : (x : A) (t : List A) (m : x isIn t) (z : A) → z isIn t → (z ≡ x) ⊎ (z isIn without x t m)
+  unfolding without
+  without-in x [] m z q = absurd m
+  without-in x (y ∷ t) (inl e) z (inl q) = inl (q ∙ sym e)
+  without-in x (y ∷ t) (inl e) z (inr q) = inr q
+  without-in x (y ∷ t) (inr m) z (inl q) = inr (inl q)
+  without-in x (y ∷ t) (inr m) z (inr q) = elim (without-in x t m z q) [ inl r ↦ inl r | inr r ↦ inr (inr r) ]
+
+-- ---- how many things a list can hold
+
+-- different things whose images differ and are all in t are no more than t is long
+pub images-le : {A B : Type 0} (f : A → B) (s : List A) (t : List B) → Distinct s → ((x : A) → x isIn s → f x isIn t)
+    → ((x y : A) → x isIn s → y isIn s → f x ≡ f y → x ≡ y) → length s ≤ length t
+images-le f [] t d h g = zero-le
+images-le f (x ∷ s) t d h g =
+    let m = h x (inl refl) in
+    omega (
+      arith,
+      without-length (f x) t m,
+      images-le f s (without (f x) t m) (d .1)
+          (λ y q. elim (without-in (f x) t m (f y) (h y (inr q))) [ inl e ↦ absurd (d .0 (rw (g y x (inr q) (inl refl) e) at q)) | inr r ↦ r ])
+          (λ y z p q e. g y z (inr p) (inr q) e),
+    )
+
+module _ {A : Type 0} where
+  pub distinct-le : (s t : List A) → Distinct s → ((x : A) → x isIn s → x isIn t) → length s ≤ length t
+  distinct-le s t d h = images-le (λ x. x) s t d h (λ x y p q e. e)
+
+  -- `Exactly` pins its number down
+  pub exactly-only : {P : A → Type 0} {j k : ℕ} → Exactly P j → Exactly P k → j ≡ k
+  exactly-only p q =
+      omega (
+        arith,
+        p .many,
+        q .many,
+        distinct-le (p .list) (q .list) (p .once) (λ x m. q .all x (p .only x m)),
+        distinct-le (q .list) (p .list) (q .once) (λ x m. p .all x (q .only x m)),
+      )
+
+  -- what is a P exactly where it is a Q is as many
+  pub exactly-cong : {P Q : A → Type 0} {k : ℕ} → ((x : A) → P x → Q x) → ((x : A) → Q x → P x) → Exactly P k → Exactly Q k
+  exactly-cong f g r = record { list = r .list; once = r .once; all = λ x q. r .all x (g x q); only = λ x m. f x (r .only x m); many = r .many }

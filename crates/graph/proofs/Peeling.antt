@@ -1,0 +1,30 @@
+-- Taking away, one after another, vertices without an edge into what is left: if no such vertex is left there is a cycle, and if none
+-- is left at all there is no cycle. Assumes nothing.
+use mathlib.Core.Path.{_≡_}
+use Prim.Native.Nat.{ℕ, zero, suc, _<_}
+use native.Mathlib.Omega.{arith}
+use Rattle.graph.specs.Graph.{Edge, Cycle, Acyclic}
+use Rattle.graph.specs.Order.{Order}
+use Rattle.graph.proofs.Deep.{Deep, deep, deep-acyclic, cycle?}
+
+module _ (n : ℕ) (w : ℕ → ℕ → ℕ) where
+  -- from each vertex of L an edge leads to a vertex of L
+  abbrev pub Stuck : (ℕ → Type 0) → Type 0
+  Stuck L = (a : ℕ) → a < n → L a → (b : ℕ) × (b < n) × Edge n w a b × L b
+
+  stuck-not-deep : (L : ℕ → Type 0) → Stuck L → (k i : ℕ) → i < n → L i → Deep n w k i → ⊥
+  stuck-not-deep L s zero i h p d = d
+  stuck-not-deep L s (suc k) i h p d = let r = s i h p in stuck-not-deep L s k (r .0) (r .1) (r .3) (d (r .0) (r .1) (r .2))
+
+  -- were there no cycle, no walk would have more than n vertices; inside L a walk has as many as one likes
+  pub stuck-cycle : (L : ℕ → Type 0) (i : ℕ) → i < n → L i → Stuck L → Cycle n w
+  stuck-cycle L i h p s = elim (cycle? n w) [ yes c ↦ c | no a ↦ absurd (stuck-not-deep L s n i h p (deep n w a i h)) ]
+
+  -- a walk from v m goes down the order, so it has at most m + 1 vertices
+  order-deep : (k : ℕ) (v : ℕ → ℕ) → Order n w k v → (s m : ℕ) → m < s → m < k → Deep n w s (v m)
+  order-deep k v o zero m hs hk = absurd (omega arith)
+  order-deep k v o (suc s) m hs hk = λ b hb p. let r = o .earlier m hk b hb p in rw (r .2) at (order-deep k v o s (r .0) (omega (arith, r .1)) (omega (arith, r .1)))
+
+  -- a graph all of whose vertices stand in such an order has no cycle
+  pub order-acyclic : (k : ℕ) (v : ℕ → ℕ) → Order n w k v → ((i : ℕ) → i < n → (m : ℕ) × (m < k) × (v m ≡ i)) → Acyclic n w
+  order-acyclic k v o h = deep-acyclic n w k (λ i hi. let r = h i hi in rw (r .2) at (order-deep k v o k (r .0) (r .1) (r .1)))

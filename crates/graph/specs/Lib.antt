@@ -1,0 +1,3 @@
+pub mod Graph
+pub mod Count
+pub mod Order

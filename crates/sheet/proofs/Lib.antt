@@ -1,0 +1,14 @@
+pub mod TableLaws
+pub mod FillLaws
+pub mod LayoutLaws
+pub mod ShapeLaws
+pub mod AnswerLaws
+pub mod EmptyLaws
+pub mod OrderLaws
+pub mod RowsLaws
+pub mod ValidLaws
+pub mod RowLaws
+pub mod RecountLaws
+pub mod CallLaws
+pub mod Refusals
+pub mod Meaning

@@ -1,0 +1,105 @@
+-- The laws of the table: a test decides its condition, and the first test that is true finds the first condition that holds.
+-- Assumes nothing.
+use mathlib.Core.Path.{_≡_, refl, sym, _∙_}
+use mathlib.Core.Logic.{_⊎_, inl, inr, _↔_}
+use mathlib.Core.Bool.{Bool, true, false, not, cond, _||_, false≢true}
+use mathlib.Core.List.{[], _∷_}
+use Prim.Native.Nat.{ℕ, _≤_, _<_}
+use borrow.Author.Tests.{ltb-true, leb-true, eqb-true, lt-ltb, le-leb, eq-eqb}
+use lib.Dec.{ltb, leb, eqb}
+use Rattle.sheet.specs.Table.{_gives_, Conditions, First, Tests, firstTrue, Reflects}
+
+-- ---- tests that decide
+
+-- a test that is false refutes, and a statement that is refuted has a false test
+pub reflects-false : {t : Bool} {P : Type 0} → Reflects t P → (t ≡ false) ↔ (¬ P)
+reflects-false {t} {P} p = (λ e x. false≢true (sym e ∙ p .shows x), go t p)
+  where
+    go : (t : Bool) → Reflects t P → (¬ P) → t ≡ false
+    go true p h = absurd (h (p .holds refl))
+    go false p h = refl
+
+pub reflects-true : {P : Type 0} → P → Reflects true P
+reflects-true x = record { holds = λ e. x; shows = λ y. refl }
+
+pub reflects-none : {P : Type 0} → (¬ P) → Reflects false P
+reflects-none h = record { holds = λ e. absurd (false≢true e); shows = λ x. absurd (h x) }
+
+pub reflects-iff : {t : Bool} {P Q : Type 0} → (P → Q) → (Q → P) → Reflects t P → Reflects t Q
+reflects-iff f g p = record { holds = λ e. f (p .holds e); shows = λ x. p .shows (g x) }
+
+pub reflects-or : {a b : Bool} {P Q : Type 0} → Reflects a P → Reflects b Q → Reflects (a || b) (P ⊎ Q)
+reflects-or {a} {b} {P} {Q} p q = go a p
+  where
+    go : (a : Bool) → Reflects a P → Reflects (a || b) (P ⊎ Q)
+    go true p = reflects-true (inl (p .holds refl))
+    go false p = record {
+      holds = λ e. inr (q .holds e);
+      shows = λ c. elim c [ inl x ↦ absurd (false≢true (p .shows x)) | inr x ↦ q .shows x ];
+    }
+
+pub reflects-not : {t : Bool} {P : Type 0} → Reflects t P → Reflects (not t) (¬ P)
+reflects-not {t} {P} p = go t p
+  where
+    go : (t : Bool) → Reflects t P → Reflects (not t) (¬ P)
+    go true p = reflects-none (λ h. h (p .holds refl))
+    go false p = reflects-true (λ x. false≢true (p .shows x))
+
+pub reflects-lt : (x y : ℕ) → Reflects (ltb x y) (x < y)
+reflects-lt x y = record { holds = ltb-true x y; shows = lt-ltb x y }
+
+pub reflects-le : (x y : ℕ) → Reflects (leb x y) (x ≤ y)
+reflects-le x y = record { holds = leb-true x y; shows = le-leb x y }
+
+pub reflects-eq : (x y : ℕ) → Reflects (eqb x y) (x ≡ y)
+reflects-eq x y = record { holds = eqb-true x y; shows = eq-eqb x y }
+
+-- ---- the first
+
+-- each test decides its condition, once those before it do not hold, and gives the same number
+abbrev pub Agree : Conditions → Tests → Type 0
+Agree [] [] = Unit {0}
+Agree [] (t ∷ ts) = ⊥
+Agree (c ∷ cs) [] = ⊥
+Agree (c ∷ cs) (t ∷ ts) = Reflects (t .0) (c .0) × (t .1 ≡ c .1) × ((¬ (c .0)) → Agree cs ts)
+
+pub first-true : (cs : Conditions) (ts : Tests) → Agree cs ts → First cs (firstTrue ts)
+unfolding firstTrue
+first-true [] [] a = refl
+first-true [] (t ∷ ts) a = absurd a
+first-true (c ∷ cs) [] a = absurd a
+first-true (c ∷ cs) (t ∷ ts) a = go (t .0) (a .0) (λ d. first-true cs ts (a .2 d))
+  where
+    go : (b : Bool) → Reflects b (c .0) → ((¬ (c .0)) → First cs (firstTrue ts)) → First (c ∷ cs) (cond b (t .1) (firstTrue ts))
+    go true r k = inl (r .holds refl, a .1)
+    go false r k = let d : ¬ (c .0) = λ p. false≢true (r .shows p) in inr (d, k d)
+
+-- the first condition that holds is one
+pub first-only : (cs : Conditions) (j k : ℕ) → First cs j → First cs k → j ≡ k
+first-only [] j k p q = p ∙ sym q
+first-only (c ∷ cs) j k (inl p) (inl q) = p .1 ∙ sym (q .1)
+first-only (c ∷ cs) j k (inl p) (inr q) = absurd (q .0 (p .0))
+first-only (c ∷ cs) j k (inr p) (inl q) = absurd (p .0 (q .0))
+first-only (c ∷ cs) j k (inr p) (inr q) = first-only cs j k (p .1) (q .1)
+
+-- so a number that is the first's is k exactly if k is the number of the first condition that holds
+pub first-iff : (cs : Conditions) (m k : ℕ) → First cs m → (m ≡ k) ↔ First cs k
+first-iff cs m k f = (λ e. rw e at f, first-only cs m k f)
+
+-- conditions that hold together give the same number
+pub first-cong : {P Q : Type 0} (m : ℕ) (cs ds : Conditions) (k : ℕ) → P ↔ Q → (First cs k → First ds k) → First (P gives m ∷ cs) k → First (Q gives m ∷ ds) k
+first-cong m cs ds k e h (inl p) = inl (e .0 (p .0), p .1)
+first-cong m cs ds k e h (inr p) = inr (λ q. p .0 (e .1 q), h (p .1))
+
+-- a test that is true, and one that is false
+pub first-here : (t : Bool × ℕ) (ts : Tests) → t .0 ≡ true → firstTrue (t ∷ ts) ≡ t .1
+unfolding firstTrue
+first-here t ts e = rw e
+
+pub first-next : (t : Bool × ℕ) (ts : Tests) → t .0 ≡ false → firstTrue (t ∷ ts) ≡ firstTrue ts
+unfolding firstTrue
+first-next t ts e = rw e
+
+pub first-none : firstTrue [] ≡ 0
+unfolding firstTrue
+first-none = refl

@@ -1,0 +1,56 @@
+-- `sheet::fill::clear` meets its contract: after k turns the first k words are 0. Assumes nothing.
+use mathlib.Core.Path.{_≡_, refl, sym}
+use Prim.Native.Nat.{ℕ, _-_, _≤_}
+use native.Mathlib.Nat.{zero-add}
+use native.Mathlib.Omega.{arith}
+use borrow.Author.Needs.{needs}
+use lib.ListN.{length, length-set}
+use Rattle.sheet.specs.Fill.{over}
+use Rattle.sheet.proofs.FillLaws.{puts-none, puts-more, puts-done}
+use Rattle.sheet.proofs.fill.clear.Statement.{statement}
+use Rattle.sheet.proofs.fill.clear.Tie as tie
+
+abbrev Inv-loop : tie.InvT-loop
+Inv-loop sheet₀ k₀ sheet k = (k ≤ length sheet₀) × (length sheet ≡ length sheet₀) × (sheet ≡ over sheet₀ 0 (λ (j : ℕ). 0) k)
+
+abbrev μ-loop : tie.MeasureT-loop
+μ-loop sheet₀ k₀ sheet k = length sheet₀ - k
+
+loop-holds : tie.Need-loop-holds Inv-loop μ-loop
+loop-holds c = (omega arith, refl, puts-none _ _ _)
+
+mul-sheet : tie.Need-mul-sheet Inv-loop μ-loop
+mul-sheet c = search needs
+
+slice-write-sheet : tie.Need-slice-write-sheet Inv-loop μ-loop
+slice-write-sheet c = omega arith
+
+add-k : tie.Need-add-k Inv-loop μ-loop
+add-k c = omega arith
+
+loop-less : tie.Need-loop-less Inv-loop μ-loop
+loop-less c = omega arith
+
+loop-again : tie.Need-loop-again Inv-loop μ-loop
+loop-again c = (omega arith, simp length-set (omega arith), puts-more _ _ _ _ _ _ _ (c .before .loop .inv .2) (sym (zero-add _)) refl)
+
+same-length : tie.Need-same-length Inv-loop μ-loop
+same-length c = c .before .loop .inv .1
+
+returns : tie.Need-returns Inv-loop μ-loop
+returns c = puts-done _ _ _ _ (c .before .loop .k) (length (c .before .before .args .sheet .now)) (c .before .loop .inv .2) (omega arith)
+
+pub clear-spec : {M : Type 1} → statement M
+clear-spec =
+    tie.close
+    (tie.spec
+    Inv-loop
+    μ-loop
+    loop-holds
+    mul-sheet
+    slice-write-sheet
+    add-k
+    loop-less
+    loop-again
+    same-length
+    returns)

@@ -1,0 +1,29 @@
+-- `sheet::is_valid` meets its contract: each way out is a law of RecountLaws. Assumes nothing.
+use borrow.Author.Needs.{needs}
+use Rattle.sheet.proofs.RowsLaws.{rows-below}
+use Rattle.sheet.proofs.RecountLaws.{valid-stray, valid-cycle, valid-holds}
+use Rattle.sheet.proofs.is_valid.Statement.{statement}
+use Rattle.sheet.proofs.is_valid.Tie as tie
+
+has-stray-row-requires : tie.Need-has-stray-row-requires
+has-stray-row-requires c κs = search needs
+
+returns : tie.Need-returns
+returns c = search valid-stray
+
+peel-requires : tie.Need-peel-requires
+peel-requires c κs = search rows-below
+
+returns-2 : tie.Need-returns-2
+returns-2 c = search valid-cycle
+
+rows-hold-requires : tie.Need-rows-hold-requires
+rows-hold-requires c κs = search rows-below
+
+returns-3 : tie.Need-returns-3
+returns-3 c = search valid-holds
+
+pub is-valid-spec : {M : Type 1} → statement M
+is-valid-spec =
+    tie.close
+    (tie.spec has-stray-row-requires returns peel-requires returns-2 rows-hold-requires returns-3)

@@ -1,0 +1,76 @@
+-- `sheet::recount` meets its contract: each way out is a law of CallLaws. Assumes nothing.
+use borrow.Author.Needs.{needs}
+use Rattle.sheet.proofs.ShapeLaws.{shape-of}
+use Rattle.sheet.proofs.RowsLaws.{rows-below}
+use Rattle.sheet.proofs.CallLaws.{recount-refused, recount-stray, recount-cycle, recount-accepted, recount-shape}
+use Rattle.sheet.proofs.recount.Statement.{statement}
+use Rattle.sheet.proofs.recount.Tie as tie
+
+shape-number-requires : tie.Need-shape-number-requires
+shape-number-requires c κs = search needs
+
+refused-requires : tie.Need-refused-requires
+refused-requires c κs = search needs
+
+returns : tie.Need-returns
+returns c = search recount-refused
+
+has-stray-row-requires : tie.Need-has-stray-row-requires
+has-stray-row-requires c κs = search shape-of
+
+refused-requires-2 : tie.Need-refused-requires-2
+refused-requires-2 c κs = search needs
+
+same-length : tie.Need-same-length
+same-length c = search needs
+
+returns-2 : tie.Need-returns-2
+returns-2 c = search recount-stray
+
+peel-requires : tie.Need-peel-requires
+peel-requires c κs = search (shape-of, rows-below)
+
+refused-requires-3 : tie.Need-refused-requires-3
+refused-requires-3 c κs = search needs
+
+same-length-2 : tie.Need-same-length-2
+same-length-2 c = search needs
+
+returns-3 : tie.Need-returns-3
+returns-3 c = search recount-cycle
+
+fill-counts-requires : tie.Need-fill-counts-requires
+fill-counts-requires c κs = search (shape-of, rows-below)
+
+count-edges-requires : tie.Need-count-edges-requires
+count-edges-requires c κs = search recount-shape
+
+accepted-requires : tie.Need-accepted-requires
+accepted-requires c κs = search needs
+
+same-length-3 : tie.Need-same-length-3
+same-length-3 c = search needs
+
+returns-4 : tie.Need-returns-4
+returns-4 c = search recount-accepted
+
+pub recount-spec : {M : Type 1} → statement M
+recount-spec =
+    tie.close
+    (tie.spec
+    shape-number-requires
+    refused-requires
+    returns
+    has-stray-row-requires
+    refused-requires-2
+    same-length
+    returns-2
+    peel-requires
+    refused-requires-3
+    same-length-2
+    returns-3
+    fill-counts-requires
+    count-edges-requires
+    accepted-requires
+    same-length-3
+    returns-4)

@@ -1,0 +1,75 @@
+-- `sheet::rows::add_row` meets its contract: after j turns the first j words are added, and the others are as they were. Assumes nothing.
+use mathlib.Core.Path.{_≡_, refl}
+use Prim.Native.Nat.{ℕ, _-_, _≤_}
+use native.Mathlib.Omega.{arith}
+use borrow.Author.Needs.{needs}
+use lib.ListN.{getD}
+use Rattle.sheet.specs.Internal.{RowAdded}
+use Rattle.sheet.proofs.RowLaws.{added-none, added-more, added-kept, added-done}
+use Rattle.sheet.proofs.rows.add_row.Statement.{statement}
+use Rattle.sheet.proofs.rows.add_row.Tie as tie
+
+abbrev Inv-loop : tie.InvT-loop
+Inv-loop n sheet base t₀ j₀ t j = (j ≤ n) × (RowAdded j sheet base t₀ t) × ((k : ℕ) → j ≤ k → getD t k 0 ≡ getD t₀ k 0)
+
+abbrev μ-loop : tie.MeasureT-loop
+μ-loop n sheet base t₀ j₀ t j = n - j
+
+loop-holds : tie.Need-loop-holds Inv-loop μ-loop
+loop-holds c = (omega arith, added-none _ _ _, λ k h. refl)
+
+mul-wrapping-add : tie.Need-mul-wrapping-add Inv-loop μ-loop
+mul-wrapping-add c = omega arith
+
+element-copy-out-wrapping-add : tie.Need-element-copy-out-wrapping-add Inv-loop μ-loop
+element-copy-out-wrapping-add c = omega arith
+
+add-wrapping-add : tie.Need-add-wrapping-add Inv-loop μ-loop
+add-wrapping-add c = omega arith
+
+mul-wrapping-add-2 : tie.Need-mul-wrapping-add-2 Inv-loop μ-loop
+mul-wrapping-add-2 c = omega arith
+
+shared-slice-read-wrapping-add : tie.Need-shared-slice-read-wrapping-add Inv-loop μ-loop
+shared-slice-read-wrapping-add c = omega arith
+
+wrapping-add-requires : tie.Need-wrapping-add-requires Inv-loop μ-loop
+wrapping-add-requires c κs = search needs
+
+mul-t : tie.Need-mul-t Inv-loop μ-loop
+mul-t c = omega arith
+
+element-write-t : tie.Need-element-write-t Inv-loop μ-loop
+element-write-t c = omega arith
+
+add-j : tie.Need-add-j Inv-loop μ-loop
+add-j c = omega arith
+
+loop-less : tie.Need-loop-less Inv-loop μ-loop
+loop-less c = omega arith
+
+loop-again : tie.Need-loop-again Inv-loop μ-loop
+loop-again c = (omega arith, search added-more, search added-kept)
+
+returns : tie.Need-returns Inv-loop μ-loop
+returns c = added-done _ _ _ _ (c .before .loop .j) _ (c .before .loop .inv .1) (omega arith)
+
+pub add-row-spec : {M : Type 1} → statement M
+add-row-spec =
+    tie.close
+    (tie.spec
+    Inv-loop
+    μ-loop
+    loop-holds
+    mul-wrapping-add
+    element-copy-out-wrapping-add
+    add-wrapping-add
+    mul-wrapping-add-2
+    shared-slice-read-wrapping-add
+    wrapping-add-requires
+    mul-t
+    element-write-t
+    add-j
+    loop-less
+    loop-again
+    returns)

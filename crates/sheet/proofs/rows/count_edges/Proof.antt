@@ -1,0 +1,63 @@
+-- `sheet::rows::count_edges` meets its contract: after i turns the total is the number of set bits of the first i rows. Assumes nothing.
+use mathlib.Core.Path.{_≡_}
+use Prim.Native.Nat.{_-_, _≤_}
+use native.Mathlib.Omega.{arith}
+use borrow.Author.Needs.{needs}
+use lib.ListN.{getD}
+use Rattle.word.proofs.CountLaws.{bitCount-le}
+use Rattle.sheet.specs.Layout.{setBits}
+use Rattle.sheet.proofs.RowLaws.{setBits-zero, setBits-more, setBits-done, setBits-le}
+use Rattle.sheet.proofs.rows.count_edges.Statement.{statement}
+use Rattle.sheet.proofs.rows.count_edges.Tie as tie
+
+abbrev Inv-loop : tie.InvT-loop
+Inv-loop n sheet total₀ i₀ total i = (i ≤ n) × (total ≡ setBits i sheet)
+
+abbrev μ-loop : tie.MeasureT-loop
+μ-loop n sheet total₀ i₀ total i = n - i
+
+loop-holds : tie.Need-loop-holds Inv-loop μ-loop
+loop-holds c = (omega arith, setBits-zero _)
+
+mul-count-bits : tie.Need-mul-count-bits Inv-loop μ-loop
+mul-count-bits c = omega arith
+
+shared-slice-read-count-bits : tie.Need-shared-slice-read-count-bits Inv-loop μ-loop
+shared-slice-read-count-bits c = omega arith
+
+count-bits-requires : tie.Need-count-bits-requires Inv-loop μ-loop
+count-bits-requires c κs = search needs
+
+add-total : tie.Need-add-total Inv-loop μ-loop
+add-total c =
+    let l = c .before .before .before .loop in
+    let s = c .before .before .before .before .before .args .sheet .now in
+    omega (arith, setBits-le s (l .i), bitCount-le (getD s (l .i) 0))
+
+add-i : tie.Need-add-i Inv-loop μ-loop
+add-i c = omega arith
+
+loop-less : tie.Need-loop-less Inv-loop μ-loop
+loop-less c = omega arith
+
+loop-again : tie.Need-loop-again Inv-loop μ-loop
+loop-again c = (omega arith, search setBits-more)
+
+returns : tie.Need-returns Inv-loop μ-loop
+returns c = setBits-done _ (c .before .loop .i) _ _ (c .before .loop .inv .1) (omega arith)
+
+pub count-edges-spec : {M : Type 1} → statement M
+count-edges-spec =
+    tie.close
+    (tie.spec
+    Inv-loop
+    μ-loop
+    loop-holds
+    mul-count-bits
+    shared-slice-read-count-bits
+    count-bits-requires
+    add-total
+    add-i
+    loop-less
+    loop-again
+    returns)

@@ -1,0 +1,53 @@
+-- `sheet::rows::sum_rows` meets its contract: what is added up and what is left of the mask make the sum for the whole mask. What is
+-- left falls with each turn. Assumes nothing.
+use native.Mathlib.Omega.{arith}
+use borrow.Author.Tests.{eqb-true, eqb-false}
+use Rattle.word.proofs.BitLaws.{clear-lt}
+use Rattle.sheet.proofs.RowLaws.{Summing, summing-start, summing-more, summing-done, lowest-lt}
+use Rattle.sheet.proofs.rows.sum_rows.Statement.{statement}
+use Rattle.sheet.proofs.rows.sum_rows.Tie as tie
+
+abbrev Inv-loop : tie.InvT-loop
+Inv-loop n sheet mask t₀ rest₀ t rest = Summing n sheet mask rest t
+
+abbrev μ-loop : tie.MeasureT-loop
+μ-loop n sheet mask t₀ rest₀ t rest = rest
+
+loop-holds : tie.Need-loop-holds Inv-loop μ-loop
+loop-holds c = summing-start _ _ _ (omega arith) (c .before .pre .1)
+
+lowest-bit-requires : tie.Need-lowest-bit-requires Inv-loop μ-loop
+lowest-bit-requires c κs = omega (arith, eqb-false)
+
+row-base-requires : tie.Need-row-base-requires Inv-loop μ-loop
+row-base-requires c κs = (omega arith, lowest-lt _ _ _ (c .lowest-bit .ensures) (c .before .before .loop .inv .below))
+
+add-row-requires : tie.Need-add-row-requires Inv-loop μ-loop
+add-row-requires c κs = omega arith
+
+clear-bit-requires : tie.Need-clear-bit-requires Inv-loop μ-loop
+clear-bit-requires c κs = omega arith
+
+loop-less : tie.Need-loop-less Inv-loop μ-loop
+loop-less c = rw (c .clear-bit .ensures) (clear-lt _ _ (c .before .before .before .before .lowest-bit .ensures .set))
+
+loop-again : tie.Need-loop-again Inv-loop μ-loop
+loop-again c = search (summing-more, arith)
+
+returns : tie.Need-returns Inv-loop μ-loop
+returns c = summing-done _ _ _ _ _ (c .before .loop .inv) (omega (arith, eqb-true))
+
+pub sum-rows-spec : {M : Type 1} → statement M
+sum-rows-spec =
+    tie.close
+    (tie.spec
+    Inv-loop
+    μ-loop
+    loop-holds
+    lowest-bit-requires
+    row-base-requires
+    add-row-requires
+    clear-bit-requires
+    loop-less
+    loop-again
+    returns)

@@ -1,0 +1,39 @@
+-- The conditions of document 01's table that the calls of this crate look for, as statements and as tests. Definitions only.
+-- Assumes nothing.
+use mathlib.Core.Path.{_≡_}
+use mathlib.Core.Logic.{_⊎_}
+use mathlib.Core.Bool.{not, _||_}
+use mathlib.Core.List.{List, _∷_}
+use Prim.Native.Nat.{ℕ, _≤_, _<_}
+use lib.Dec.{ltb, eqb}
+use lib.ListN.{length}
+use Rattle.word.specs.Bit.{bit}
+use Rattle.sheet.specs.Layout.{size, rowAt}
+use Rattle.sheet.specs.Table.{_gives_, Conditions, Tests}
+
+-- 1: n is not 1 to 64
+abbrev pub BadCount : ℕ → Type 0
+BadCount n = (n < 1) ⊎ (64 < n)
+
+-- 2: the sheet isn't n + n × n words
+abbrev pub BadLength : ℕ → List ℕ → Type 0
+BadLength n s = ¬ (length s ≡ size n)
+
+-- 3: a vertex is n or more
+abbrev pub NoVertex : ℕ → ℕ → Type 0
+NoVertex n i = n ≤ i
+
+-- a word has a bit at n or above
+abbrev pub StrayBit : ℕ → ℕ → Type 0
+StrayBit n x = (j : ℕ) × (n ≤ j) × (bit x j ≡ 1)
+
+-- 4, in the rows: one has a bit at n or above
+abbrev pub StrayRow : ℕ → List ℕ → Type 0
+StrayRow n s = (i : ℕ) × (i < n) × StrayBit n (rowAt s i)
+
+-- what every call looks for first, and then the conditions l
+abbrev pub sized : ℕ → List ℕ → Conditions → Conditions
+sized n s l = BadCount n gives 1 ∷ BadLength n s gives 2 ∷ l
+
+abbrev pub sizedTests : ℕ → List ℕ → Tests → Tests
+sizedTests n s l = (ltb n 1 || ltb 64 n) gives 1 ∷ not (eqb (length s) (size n)) gives 2 ∷ l

@@ -1,0 +1,123 @@
+-- What the internal functions ask and promise. No public call's contract cites these. Definitions only. Assumes nothing.
+use mathlib.Core.Path.{_≡_}
+use mathlib.Core.Logic.{_⊎_}
+use mathlib.Core.Bool.{not, cond, _||_}
+use mathlib.Core.List.{List, [], _∷_}
+use Prim.Native.Nat.{ℕ, _+_, _*_, _%_, _^_, _≤_, _<_}
+use lib.Bits.{bitAnd}
+use lib.Dec.{ltb, eqb}
+use lib.ListN.{length, getD, set}
+use Rattle.sums.specs.Sum.{sum, delta}
+use Rattle.word.specs.Bit.{bit, hasBit, withoutBit, bitCount}
+use Rattle.graph.specs.Graph.{Cycle}
+use Rattle.graph.specs.Order.{Order}
+use Rattle.sheet.specs.declared.order.Peeling.{Peeling}
+use Rattle.sheet.specs.Table.{_gives_, firstTrue}
+use Rattle.sheet.specs.Layout.{size, rowAt, countAt, edgeAt}
+
+-- ---- the shape of a sheet
+
+-- 1, 2 or 0, of n vertices and len words
+abbrev pub shapeNumber : ℕ → ℕ → ℕ
+shapeNumber n len = firstTrue ((ltb n 1 || ltb 64 n) gives 1 ∷ not (eqb len (size n)) gives 2 ∷ [])
+
+-- neither 1 nor 2: s is as long as a sheet of n vertices
+pub record Shape (n : ℕ) (s : List ℕ) : Type 0 where
+  pub low : 1 ≤ n
+  pub high : n ≤ 64
+  pub long : length s ≡ size n
+
+-- ---- places
+
+-- r is where the counts from i begin, with all of them within a sheet
+pub record RowBase (n i r : ℕ) : Type 0 where
+  pub is : r ≡ n + i * n
+  pub within : r + n ≤ size n
+  pub small : r + n ≤ 4160
+
+-- r is the place of the count from i to j, within a sheet
+pub record Place (n i j r : ℕ) : Type 0 where
+  pub is : r ≡ n + i * n + j
+  pub within : r < size n
+  pub small : r < 4160
+
+-- where the count from i to itself stands
+abbrev pub diagonalAt : ℕ → ℕ → ℕ
+diagonalAt n i = n + i * n + i
+
+-- ---- rows of counts
+
+-- u is t with the n words of s from base on added, modulo 2 ^ 64, at the places that t has
+pub record RowAdded (n : ℕ) (s : List ℕ) (base : ℕ) (t u : List ℕ) : Type 0 where
+  pub long : length u ≡ length t
+  pub added : (j : ℕ) → j < n → j < length t → getD u j 0 ≡ (getD t j 0 + getD s (base + j) 0) % 2 ^ 64
+
+-- t has, at each j below n, the sum of the counts to j from the vertices of the mask, modulo 2 ^ 64
+pub record RowsSummed (n : ℕ) (s : List ℕ) (mask : ℕ) (t : List ℕ) : Type 0 where
+  pub long : length t ≡ 64
+  pub sums : (j : ℕ) → j < n → getD t j 0 ≡ sum n (λ b. bit mask b * countAt n s b j) % 2 ^ 64
+
+-- the count from i to j that the recurrence gives, from those of the successors of i, modulo 2 ^ 64
+unfoldable pub successorsSum : ℕ → List ℕ → ℕ → ℕ → ℕ
+successorsSum n s i j = (delta i j + sum n (λ b. edgeAt s i b * countAt n s b j)) % 2 ^ 64
+
+-- t has it at each j below n
+pub record SuccessorsSummed (n : ℕ) (s : List ℕ) (i : ℕ) (t : List ℕ) : Type 0 where
+  pub long : length t ≡ 64
+  pub sums : (j : ℕ) → j < n → getD t j 0 ≡ successorsSum n s i j
+
+-- the n words of s from base on are those of t
+abbrev pub SameRow : ℕ → List ℕ → ℕ → List ℕ → Type 0
+SameRow n s base t = (j : ℕ) → j < n → getD s (base + j) 0 ≡ getD t j 0
+
+-- the counts from i satisfy the recurrence
+abbrev pub RowHolds : ℕ → List ℕ → ℕ → Type 0
+RowHolds n s i = (j : ℕ) → j < n → countAt n s i j ≡ successorsSum n s i j
+
+-- t is s with the counts from v as the recurrence gives them
+pub record RowFilled (n : ℕ) (s : List ℕ) (v : ℕ) (t : List ℕ) : Type 0 where
+  pub long : length t ≡ length s
+  pub filled : (j : ℕ) → j < n → countAt n t v j ≡ successorsSum n s v j
+  pub kept : (k : ℕ) → (k < n + v * n) ⊎ (n + v * n + n ≤ k) → getD t k 0 ≡ getD s k 0
+
+-- ---- the order in which vertices are taken away
+
+-- no row has a bit at n or above, by the numbers
+abbrev pub RowsBelow : ℕ → List ℕ → Type 0
+RowsBelow n s = (i : ℕ) → i < n → rowAt s i < 2 ^ n
+
+-- the k-th vertex taken away, from 0
+abbrev pub vertexAt : Peeling → ℕ → ℕ
+vertexAt p k = getD (p .order) k 0
+
+-- p holds, in order, the vertices taken away from the graph of s, and those that are left: each edge from a vertex taken
+-- away leads to one that was taken away before it
+pub record Peeled (n : ℕ) (s : List ℕ) (p : Peeling) : Type 0 where
+  pub long : length (p .order) ≡ 64
+  pub below : p .left < 2 ^ n
+  pub total : bitCount (p .left) + p .count ≡ n
+  pub order : Order n (edgeAt s) (p .count) (vertexAt p)
+  pub taken : (i : ℕ) → i < n → bit (p .left) i ≡ 0 → (m : ℕ) × (m < p .count) × (vertexAt p m ≡ i)
+
+-- p with vertex i taken away
+unfoldable pub without : Peeling → ℕ → Peeling
+without p i = record { left = withoutBit (p .left) i; count = p .count + 1; order = set (p .order) (p .count) i }
+
+-- p once vertex i with its row has been looked at: without i, if i is left and no edge leads from it to what is left
+unfoldable pub lookedAt : Peeling → ℕ → ℕ → Peeling
+lookedAt p i row = cond (hasBit (p .left) i) (cond (eqb (bitAnd row (p .left)) 0) (without p i) p) p
+
+-- from vertex i no edge leads to a vertex that is left
+abbrev pub Free : List ℕ → ℕ → ℕ → Type 0
+Free s left i = bitAnd (rowAt s i) left ≡ 0
+
+-- the vertices from i to n - 1 have been looked at, and p has become q: where none was taken away, none of them can be
+pub record Looked (n : ℕ) (s : List ℕ) (p : Peeling) (i : ℕ) (q : Peeling) : Type 0 where
+  pub peeled : Peeled n s q
+  pub fewer : q .left ≤ p .left
+  pub stuck : q .left ≡ p .left → (k : ℕ) → i ≤ k → k < n → bit (p .left) k ≡ 1 → ¬ (Free s (p .left) k)
+
+-- vertices are taken away until none is left, or there is a cycle
+pub record PeeledOut (n : ℕ) (s : List ℕ) (p : Peeling) : Type 0 where
+  pub peeled : Peeled n s p
+  pub all : (p .left ≡ 0) ⊎ Cycle n (edgeAt s)

@@ -1,0 +1,46 @@
+-- Where what stands in a sheet of n vertices: n rows, then n times n counts (document 01: the sheet). Definitions only.
+-- Assumes nothing.
+use mathlib.Core.Bool.{cond}
+use mathlib.Core.List.{List, [], _∷_}
+use Prim.Native.Nat.{ℕ, zero, suc, _+_, _-_, _*_, _/_, _%_}
+use lib.Dec.{ltb}
+use lib.ListN.{length, getD}
+use Rattle.sums.specs.Sum.{sum, delta}
+use Rattle.word.specs.Bit.{bit, bitCount}
+
+-- how many words a sheet has
+abbrev pub size : ℕ → ℕ
+size n = n + n * n
+
+-- row i
+abbrev pub rowAt : List ℕ → ℕ → ℕ
+rowAt s i = getD s i 0
+
+-- the count from i to j
+abbrev pub countAt : ℕ → List ℕ → ℕ → ℕ → ℕ
+countAt n s i j = getD s (n + i * n + j) 0
+
+-- 1 where an edge runs from i to j by the rows, and 0 where none does
+abbrev pub edgeAt : List ℕ → ℕ → ℕ → ℕ
+edgeAt s i j = bit (rowAt s i) j
+
+-- the number of set bits in all rows
+unfoldable pub setBits : ℕ → List ℕ → ℕ
+setBits n s = sum n (λ i. bitCount (rowAt s i))
+
+-- f 0, f 1, .., f (m - 1)
+unfoldable pub build : ℕ → (ℕ → ℕ) → List ℕ
+build zero f = []
+build (suc m) f = f 0 ∷ build m (λ k. f (suc k))
+
+-- word k of s with row i as r i and the count from i to j as c i j
+unfoldable pub redoneWord : ℕ → (ℕ → ℕ) → (ℕ → ℕ → ℕ) → List ℕ → ℕ → ℕ
+redoneWord n r c s k = cond (ltb k n) (r k) (cond (ltb k (n + n * n)) (c ((k - n) / n) ((k - n) % n)) (getD s k 0))
+
+-- s with row i as r i and the count from i to j as c i j, and every other word as it was
+unfoldable pub redone : ℕ → (ℕ → ℕ) → (ℕ → ℕ → ℕ) → List ℕ → List ℕ
+redone n r c s = build (length s) (redoneWord n r c s)
+
+-- the empty sheet: no edge, one path from each vertex to itself, and none to another
+unfoldable pub emptySheet : ℕ → List ℕ
+emptySheet n = redone n (λ i. 0) delta (build (size n) (λ k. 0))

@@ -1,0 +1,38 @@
+// The checks that calls share.
+ghost use mathlib.Core.Path.{_≡_};
+ghost use Rattle.sheet.specs.Table.{Reflects};
+ghost use Rattle.sheet.specs.Conditions.{StrayRow};
+ghost use Rattle.sheet.specs.Internal.{shapeNumber, Shape};
+use crate::answer::Refusal;
+use crate::layout::Sheet;
+
+// Internal: 1 if n is not 1 to 64, else 2 if a sheet of n vertices has not so many words, else 0.
+pub fn shape_number(n: usize, words: usize) -> u64
+    ensures { λ r. ⌜ r ≡ shapeNumber n words ⌝ }
+{
+    if n < 1 {
+        return Refusal::VERTICES;
+    }
+    if Sheet::VERTICES < n {
+        return Refusal::VERTICES;
+    }
+    if words != n + n * n {
+        return Refusal::LENGTH;
+    }
+    0
+}
+
+// Internal: whether a row has a bit at n or above.
+pub fn has_stray_row(n: usize, sheet: &[u64]) -> bool
+    requires { ⌜ Shape n (now sheet) ⌝ }
+    ensures { λ r. ⌜ Reflects r (StrayRow n (now (sheet .entry))) ⌝ }
+{
+    let mut i = 0;
+    while i < n {
+        if !word::within(sheet[i], n) {
+            return true;
+        }
+        i += 1;
+    }
+    false
+}

@@ -1,0 +1,45 @@
+// Where what stands in a sheet, and the sheet's own type.
+ghost use mathlib.Core.Path.{_≡_};
+ghost use Prim.Native.Nat.{_≤_, _<_};
+ghost use Rattle.sheet.specs.Layout.{emptySheet};
+ghost use Rattle.sheet.specs.Internal.{Place, RowBase};
+use crate::fill;
+
+// A sheet of the greatest size. Other sheets are lent as n + n × n words.
+pub struct Sheet {
+    pub words: [u64; Sheet::WORDS],
+}
+
+impl Sheet {
+    // The most vertices that a sheet has.
+    pub const VERTICES: usize = 64;
+    // The words of a sheet of so many vertices: 64 rows and 64 × 64 counts.
+    pub const WORDS: usize = 4160;
+    // The most edges that a valid sheet has: 64 × 63 / 2.
+    pub const EDGES: usize = 2016;
+
+    // The empty sheet of 64 vertices.
+    pub fn new() -> Sheet
+        ensures { λ r. ⌜ r .words ≡ emptySheet 64 ⌝ }
+    {
+        let mut words = [0u64; Sheet::WORDS];
+        fill::fill_empty(Sheet::VERTICES, &mut words);
+        Sheet { words }
+    }
+}
+
+// Internal: where the counts from vertex i begin.
+pub fn row_base(n: usize, i: usize) -> usize
+    requires { ⌜ (n ≤ 64) × (i < n) ⌝ }
+    ensures { λ r. ⌜ RowBase n i r ⌝ }
+{
+    n + i * n
+}
+
+// Internal: where the count from vertex i to vertex j stands.
+pub fn count_place(n: usize, i: usize, j: usize) -> usize
+    requires { ⌜ (n ≤ 64) × (i < n) × (j < n) ⌝ }
+    ensures { λ r. ⌜ Place n i j r ⌝ }
+{
+    row_base(n, i) + j
+}

@@ -1,0 +1,116 @@
+// Sheets of path counts: the adjacency rows of an acyclic graph and the number of paths between every two vertices, in the
+// words of a lent slice. The calls of this file answer every n, every length and all words.
+ghost use mathlib.Core.Path.{_≡_};
+ghost use Prim.Native.Nat.{ℕ, _<_, _%_, _^_};
+ghost use Rattle.graph.specs.Count.{pathCount};
+ghost use Rattle.sheet.specs.Table.{Reflects};
+ghost use Rattle.sheet.specs.Layout.{rowAt, edgeAt, redone};
+ghost use Rattle.sheet.specs.Valid.{Valid};
+ghost use Rattle.sheet.specs.Calls.{emptyAnswer, emptyAfter, pathCountAnswer, Recount, Validate};
+ghost use Rattle.sheet.specs.Internal.{Shape, RowsBelow, Peeled};
+
+mod answer;
+mod checks;
+mod fill;
+mod layout;
+mod order;
+mod rows;
+
+pub use answer::Answer;
+pub use answer::Refusal;
+pub use layout::Sheet;
+use order::Peeling;
+
+// The empty sheet of n vertices, whatever the words were. Refused by 1, 2. The value is 0.
+pub fn empty(n: usize, sheet: &mut [u64]) -> Answer
+    ensures answer { λ r. ⌜ r ≡ emptyAnswer n (now (sheet .entry)) ⌝ }
+    ensures words { λ r. ⌜ now (sheet .exit) ≡ emptyAfter n (now (sheet .entry)) ⌝ }
+{
+    let number = checks::shape_number(n, sheet.len());
+    if number != 0 {
+        return Answer::refused(number);
+    }
+    fill::fill_empty(n, sheet);
+    Answer::accepted(0)
+}
+
+// The count from i to j as it stands in the sheet; on a valid sheet, the number of paths. Refused by 1, 2, 3.
+pub fn path_count(n: usize, sheet: &[u64], i: usize, j: usize) -> Answer
+    ensures { λ r. ⌜ r ≡ pathCountAnswer n (now (sheet .entry)) i j ⌝ }
+{
+    let number = checks::shape_number(n, sheet.len());
+    if number != 0 {
+        return Answer::refused(number);
+    }
+    if n <= i {
+        return Answer::refused(Refusal::VERTEX);
+    }
+    if n <= j {
+        return Answer::refused(Refusal::VERTEX);
+    }
+    let k = layout::count_place(n, i, j);
+    Answer::accepted(sheet[k])
+}
+
+// The counts, in the order of p: each row from those of its successors, which are earlier.
+fn fill_counts(n: usize, sheet: &mut [u64], p: Peeling)
+    requires { ⌜ (Shape n (now sheet)) × (RowsBelow n (now sheet)) × (Peeled n (now sheet) p) × (p .left ≡ 0) ⌝ }
+    ensures { λ r. ⌜ now (sheet .exit) ≡ redone n (rowAt (now (sheet .entry))) (λ (i j : ℕ). pathCount n (edgeAt (now (sheet .entry))) i j % 2 ^ 64) (now (sheet .entry)) ⌝ }
+{
+    let order = p.order;
+    let mut k = 0;
+    while k < n {
+        rows::fill_row(n, sheet, order[k]);
+        k += 1;
+    }
+}
+
+// The counts worked out afresh from the rows (document 01: the survey). Refused by 1, 2, 4, 8, before a word is written. The
+// value is the number of set bits in all rows.
+pub fn recount(n: usize, sheet: &mut [u64]) -> Answer
+    ensures { λ r. ⌜ Recount n (now (sheet .entry)) r (now (sheet .exit)) ⌝ }
+{
+    let number = checks::shape_number(n, sheet.len());
+    if number != 0 {
+        return Answer::refused(number);
+    }
+    if checks::has_stray_row(n, sheet) {
+        return Answer::refused(Refusal::STRAY_BIT);
+    }
+    let p = order::peel(n, sheet);
+    if p.left != 0 {
+        return Answer::refused(Refusal::CYCLE);
+    }
+    fill_counts(n, sheet, p);
+    Answer::accepted(rows::count_edges(n, sheet))
+}
+
+// Internal: whether a sheet of the right shape is valid. The counts are those of paths exactly if there is no cycle and they
+// satisfy the recurrence.
+pub fn is_valid(n: usize, sheet: &[u64]) -> bool
+    requires { ⌜ Shape n (now sheet) ⌝ }
+    ensures { λ r. ⌜ Reflects r (Valid n (now (sheet .entry))) ⌝ }
+{
+    if checks::has_stray_row(n, sheet) {
+        return false;
+    }
+    let peeling = order::peel(n, sheet);
+    if peeling.left != 0 {
+        return false;
+    }
+    rows::rows_hold(n, sheet)
+}
+
+// Whether the sheet is valid, whoever wrote it (document 01: the test of a stored sheet). Refused by 1, 2. The value is 1 or 0.
+pub fn validate(n: usize, sheet: &[u64]) -> Answer
+    ensures { λ r. ⌜ Validate n (now (sheet .entry)) r ⌝ }
+{
+    let number = checks::shape_number(n, sheet.len());
+    if number != 0 {
+        return Answer::refused(number);
+    }
+    if is_valid(n, sheet) {
+        return Answer::accepted(1);
+    }
+    Answer::accepted(0)
+}

@@ -1,0 +1,180 @@
+-- The laws of a number's bits: one bit, a bit set or cleared, and the number that the bits determine. Assumes nothing.
+use mathlib.Core.Path.{_≡_, refl, sym, ap, subst, _∙_}
+use mathlib.Core.Logic.{_⊎_, inl, inr, ⊎-elim, _↔_}
+use mathlib.Core.Bool.{Bool, true, false}
+use Prim.Native.Nat.{ℕ, zero, suc, _+_, _-_, _*_, _/_, _%_, _^_, _≤_, _<_}
+use native.Mathlib.Nat.{mod-lt, div-eq-of-lt, zero-lt-suc, lt-of-lt-of-le, zero-div, pow-suc, add-mul, sub-le}
+use native.Mathlib.Numerals.{add-one, one-add}
+use native.Mathlib.Decide.{decLt}
+use native.Mathlib.Omega.{arith}
+use borrow.Author.Tests.{eqb-true, eqb-false}
+use lib.Arith.{lt-one}
+use lib.Pow.{pow-pos, pow-mono, shr-shr, shr-lt, split, high, low, field, mod-mod-pow}
+use Rattle.word.specs.Bit.{bit, hasBit, withBit, withoutBit}
+
+pub bit-lt : (x j : ℕ) → bit x j < 2
+bit-lt x j = mod-lt (x / 2 ^ j) (zero-lt-suc 1)
+
+two-cases : (b : ℕ) → b < 2 → (b ≡ 0) ⊎ (b ≡ 1)
+two-cases zero h = inl refl
+two-cases (suc zero) h = inr refl
+two-cases (suc (suc b)) h = absurd (omega arith)
+
+pub bit-cases : (x j : ℕ) → (bit x j ≡ 0) ⊎ (bit x j ≡ 1)
+bit-cases x j = two-cases (bit x j) (bit-lt x j)
+
+pub bit-zero : (j : ℕ) → bit 0 j ≡ 0
+bit-zero j = ap (λ y. y % 2) (zero-div (2 ^ j))
+
+-- ---- the test of a bit, as a branch finds it
+
+pub has-true : (x j : ℕ) (t : Bool) → t ≡ hasBit x j → t ≡ true → bit x j ≡ 1
+has-true x j t e h = eqb-true (bit x j) 1 (sym e ∙ h)
+
+pub has-false : (x j : ℕ) (t : Bool) → t ≡ hasBit x j → t ≡ false → bit x j ≡ 0
+has-false x j t e h = ⊎-elim (λ z. z) (λ o. absurd (eqb-false (bit x j) 1 (sym e ∙ h) o)) (bit-cases x j)
+
+-- ---- the bits of a number a above j digits r
+
+rest-lt : (x j : ℕ) → x % 2 ^ j < 2 ^ j
+rest-lt x j = mod-lt x (pow-pos j)
+
+-- halving drops the lowest bit
+pub bit-half : (x i : ℕ) → bit (x / 2) i ≡ bit x (suc i)
+bit-half x i = ap (λ y. y % 2) (shr-shr x 1 i ∙ ap (λ y. x / 2 ^ y) (one-add i))
+
+-- the bits below j are those of the remainder by 2 ^ j
+pub bit-mod : (x j k : ℕ) → k < j → bit (x % 2 ^ j) k ≡ bit x k
+bit-mod x j k h =
+    let e : suc (j - suc k) + k ≡ j = omega arith in
+    subst (λ m. bit (x % 2 ^ m) k ≡ bit x k) e (under (j - suc k))
+  where
+    under : (i : ℕ) → bit (x % 2 ^ (suc i + k)) k ≡ bit x k
+    under i = ap (λ y. y % 2) (field x (suc i) k) ∙ ap (λ y. x / 2 ^ k % 2 ^ y % 2) (sym (add-one i)) ∙ mod-mod-pow (x / 2 ^ k) i 1
+
+bit-below : (a j r k : ℕ) → k < j → r < 2 ^ j → bit (a * 2 ^ j + r) k ≡ bit r k
+bit-below a j r k kj h = sym (bit-mod (a * 2 ^ j + r) j k kj) ∙ ap (λ y. bit y k) (low a j h)
+
+bit-above : (a j r i : ℕ) → r < 2 ^ j → bit (a * 2 ^ j + r) (j + i) ≡ bit a i
+bit-above a j r i h = ap (λ x. x % 2) (sym (shr-shr (a * 2 ^ j + r) j i) ∙ ap (λ x. x / 2 ^ i) (high a j h))
+
+bit-at : (a j r : ℕ) → r < 2 ^ j → bit (a * 2 ^ j + r) j ≡ a % 2
+bit-at a j r h = ap (λ x. x % 2) (high a j h)
+
+-- two numbers that differ in the digit j alone have the same bit at every other place
+bit-other : (a b j r k : ℕ) → (k ≡ j → ⊥) → a / 2 ≡ b / 2 → r < 2 ^ j → bit (a * 2 ^ j + r) k ≡ bit (b * 2 ^ j + r) k
+bit-other a b j r k d e h =
+    elim (decLt k j) [
+      | yes l ↦ bit-below a j r k l h ∙ sym (bit-below b j r k l h)
+      | no l ↦ let q : j + suc (k - suc j) ≡ k = omega (arith, d) in subst (λ m. bit (a * 2 ^ j + r) m ≡ bit (b * 2 ^ j + r) m) q (over (k - suc j))
+    ]
+  where
+    over : (i : ℕ) → bit (a * 2 ^ j + r) (j + suc i) ≡ bit (b * 2 ^ j + r) (j + suc i)
+    over i = bit-above a j r (suc i) h ∙ sym (bit-half a i) ∙ ap (λ y. bit y i) e ∙ bit-half b i ∙ sym (bit-above b j r (suc i) h)
+
+-- ---- a bit set
+
+set-split : (x j : ℕ) → withBit x j ≡ (x / 2 ^ j + (1 - bit x j)) * 2 ^ j + x % 2 ^ j
+unfolding withBit
+set-split x j = omega (arith, split x j, add-mul (x / 2 ^ j) (1 - bit x j) (2 ^ j))
+
+pub bit-set-same : (x j : ℕ) → bit (withBit x j) j ≡ 1
+bit-set-same x j =
+    ap (λ y. bit y j) (set-split x j) ∙ bit-at (x / 2 ^ j + (1 - bit x j)) j (x % 2 ^ j) (rest-lt x j) ∙ omega arith
+
+pub bit-set-other : (x j k : ℕ) → (k ≡ j → ⊥) → bit (withBit x j) k ≡ bit x k
+bit-set-other x j k d =
+    ap (λ y. bit y k) (set-split x j)
+    ∙ bit-other (x / 2 ^ j + (1 - bit x j)) (x / 2 ^ j) j (x % 2 ^ j) k d (omega arith) (rest-lt x j)
+    ∙ ap (λ y. bit y k) (split x j)
+
+pub set-twice : (x j : ℕ) → withBit (withBit x j) j ≡ withBit x j
+unfolding withBit
+set-twice x j = omega (arith, ap (λ y. (1 - y) * 2 ^ j) (bit-set-same x j))
+
+-- ---- a bit cleared
+
+-- what stands above j, the digit j, and what stands below
+digit-split : (x j : ℕ) → (x / 2 ^ j - bit x j) * 2 ^ j + bit x j * 2 ^ j + x % 2 ^ j ≡ x
+digit-split x j =
+    let e : x / 2 ^ j - bit x j + bit x j ≡ x / 2 ^ j = omega arith in
+    omega (arith, split x j, add-mul (x / 2 ^ j - bit x j) (bit x j) (2 ^ j), ap (λ y. y * 2 ^ j) e)
+
+clear-split : (x j : ℕ) → withoutBit x j ≡ (x / 2 ^ j - bit x j) * 2 ^ j + x % 2 ^ j
+unfolding withoutBit
+clear-split x j = omega (arith, digit-split x j)
+
+pub bit-clear-same : (x j : ℕ) → bit (withoutBit x j) j ≡ 0
+bit-clear-same x j =
+    ap (λ y. bit y j) (clear-split x j) ∙ bit-at (x / 2 ^ j - bit x j) j (x % 2 ^ j) (rest-lt x j) ∙ omega arith
+
+pub bit-clear-other : (x j k : ℕ) → (k ≡ j → ⊥) → bit (withoutBit x j) k ≡ bit x k
+bit-clear-other x j k d =
+    ap (λ y. bit y k) (clear-split x j)
+    ∙ bit-other (x / 2 ^ j - bit x j) (x / 2 ^ j) j (x % 2 ^ j) k d (omega arith) (rest-lt x j)
+    ∙ ap (λ y. bit y k) (split x j)
+
+pub clear-twice : (x j : ℕ) → withoutBit (withoutBit x j) j ≡ withoutBit x j
+unfolding withoutBit
+clear-twice x j = omega (arith, ap (λ y. y * 2 ^ j) (bit-clear-same x j))
+
+pub clear-le : (x j : ℕ) → withoutBit x j ≤ x
+unfolding withoutBit
+clear-le x j = sub-le x (bit x j * 2 ^ j)
+
+pub clear-lt : (x j : ℕ) → bit x j ≡ 1 → withoutBit x j < x
+clear-lt x j e = omega (arith, clear-split x j, digit-split x j, ap (λ y. y * 2 ^ j) e, pow-pos j)
+
+-- ---- the bits and the number
+
+pub half-lt : (x k : ℕ) → x < 2 ^ suc k → x / 2 < 2 ^ k
+half-lt x k l = shr-lt k 1 (subst (λ y. x < 2 ^ y) (sym (add-one k)) l)
+
+-- two numbers of n digits with the same bits are one
+pub bits-determine : (n a b : ℕ) → a < 2 ^ n → b < 2 ^ n → ((j : ℕ) → j < n → bit a j ≡ bit b j) → a ≡ b
+bits-determine zero a b ha hb h = lt-one ha ∙ sym (lt-one hb)
+bits-determine (suc n) a b ha hb h =
+    let e : a / 2 ≡ b / 2 = bits-determine n (a / 2) (b / 2) (half-lt a n ha) (half-lt b n hb) (λ j l. bit-half a j ∙ h (suc j) (omega arith) ∙ sym (bit-half b j)) in
+    omega (arith, h 0 (zero-lt-suc n))
+
+-- a number of n digits has no bit at n or above
+pub bit-above-zero : (x n j : ℕ) → x < 2 ^ n → n ≤ j → bit x j ≡ 0
+bit-above-zero x n j h l = ap (λ y. y % 2) (div-eq-of-lt (lt-of-lt-of-le h (pow-mono l)))
+
+-- a number that is not 0 has a bit
+some-bit : (k x : ℕ) → x < 2 ^ k → 0 < x → (j : ℕ) × (bit x j ≡ 1)
+some-bit zero x l h = absurd (omega arith)
+some-bit (suc k) x l h =
+    elim (bit-cases x 0) [
+      | inr e ↦ (0, e)
+      | inl e ↦ let r = some-bit k (x / 2) (half-lt x k l) (omega arith) in (suc (r .0), sym (bit-half x (r .0)) ∙ r .1)
+    ]
+
+lt-pow : (x : ℕ) → x < 2 ^ x
+lt-pow zero = omega arith
+lt-pow (suc x) = omega (arith, lt-pow x, pow-suc 2 x)
+
+pub shr-zero-lt : (n x : ℕ) → x / 2 ^ n ≡ 0 → x < 2 ^ n
+shr-zero-lt n x e = omega (arith, split x n, ap (λ y. y * 2 ^ n) e, rest-lt x n)
+
+-- a number of more than n digits has a bit at n or above
+pub bit-beyond : (n x : ℕ) → 2 ^ n ≤ x → (j : ℕ) × (n ≤ j) × (bit x j ≡ 1)
+bit-beyond n x h =
+    let q : ℕ = x / 2 ^ n in
+    let p : 0 < q = elim (decLt 0 q) [ yes l ↦ l | no l ↦ absurd (omega (arith, shr-zero-lt n x (omega arith))) ] in
+    let r = some-bit q q (lt-pow q) p in
+    (n + r .0, omega arith, ap (λ y. y % 2) (sym (shr-shr x n (r .0))) ∙ r .1)
+
+-- a number has n digits if and only if it has no bit at n or above
+pub below-iff : (n x : ℕ) → (x < 2 ^ n) ↔ ((j : ℕ) → n ≤ j → bit x j ≡ 0)
+below-iff n x = (λ h j l. bit-above-zero x n j h l, back)
+  where
+    back : ((j : ℕ) → n ≤ j → bit x j ≡ 0) → x < 2 ^ n
+    back h =
+        elim (decLt x (2 ^ n)) [
+          | yes l ↦ l
+          | no l ↦ let r = bit-beyond n x (omega arith) in absurd (omega (arith, h (r .0) (r .1), r .2))
+        ]
+
+pub set-below : (n x j : ℕ) → j < n → x < 2 ^ n → withBit x j < 2 ^ n
+set-below n x j jn h = below-iff n (withBit x j) .1 (λ k l. bit-set-other x j k (omega arith) ∙ bit-above-zero x n k h l)

@@ -1,0 +1,107 @@
+-- The laws of sums over the bits of a word, of how many are set, and of the lowest that is set. Assumes nothing.
+use mathlib.Core.Path.{_≡_, sym, ap, ap₂, subst, _∙_}
+use mathlib.Core.Logic.{inl, inr, ⊎-elim}
+use Prim.Native.Nat.{ℕ, zero, suc, _+_, _-_, _*_, _/_, _%_, _^_, _≤_, _<_}
+use native.Mathlib.Nat.{mod-lt, mod-eq-of-lt, add-comm, add-zero, zero-mul, one-mul, lt-of-lt-of-le}
+use native.Mathlib.Numerals.{one-add}
+use native.Mathlib.Decide.{ℕ-discrete}
+use native.Mathlib.Omega.{arith}
+use lib.Arith.{lt-one}
+use lib.Pow.{pow-pos, pow-mono, shr-lt, split, ones-lt}
+use lib.Count.{ones, ones-cat, ones-ones, trailingZeros}
+use Rattle.sums.specs.Sum.{sum, delta}
+use Rattle.sums.proofs.SumLaws.{delta-refl, delta-diff, sum-cong, sum-add, sum-pick, term-le}
+use Rattle.word.specs.Bit.{bit, withBit, withoutBit, bitCount, Lowest}
+use Rattle.word.proofs.BitLaws.{bit-lt, bit-cases, bit-half, half-lt, bit-mod, bit-set-same, bit-set-other, bit-clear-same, bit-clear-other}
+
+-- ---- a sum over the set bits, where one bit changes
+
+-- two functions that differ at j alone
+sum-differ : (n j c : ℕ) (f g : ℕ → ℕ) → j < n → g j ≡ f j + c → ((b : ℕ) → (b ≡ j → ⊥) → g b ≡ f b) → sum n g ≡ sum n f + c
+sum-differ n j c f g jn e h =
+    sum-cong n g (λ b. f b + delta b j * c) (λ b l. at b) ∙ sum-add n f (λ b. delta b j * c) ∙ ap (λ y. sum n f + y) (sum-pick n j (λ _. c) jn)
+  where
+    at : (b : ℕ) → g b ≡ f b + delta b j * c
+    at b =
+        elim (ℕ-discrete b j) [
+          | yes q ↦ rw (q, delta-refl j, one-mul) e
+          | no d ↦ rw (delta-diff b j d, zero-mul, add-zero) (h b d)
+        ]
+
+pub sum-clear : (n x j : ℕ) (f : ℕ → ℕ) → j < n → sum n (λ b. bit x b * f b) ≡ sum n (λ b. bit (withoutBit x j) b * f b) + bit x j * f j
+sum-clear n x j f h =
+    sum-differ n j (bit x j * f j) (λ b. bit (withoutBit x j) b * f b) (λ b. bit x b * f b) h
+    (omega (arith, ap (λ y. y * f j) (bit-clear-same x j)))
+    (λ b d. ap (λ y. y * f b) (sym (bit-clear-other x j b d)))
+
+pub sum-set : (n x j : ℕ) (f : ℕ → ℕ) → j < n → sum n (λ b. bit (withBit x j) b * f b) ≡ sum n (λ b. bit x b * f b) + (1 - bit x j) * f j
+sum-set n x j f h =
+    sum-differ n j ((1 - bit x j) * f j) (λ b. bit x b * f b) (λ b. bit (withBit x j) b * f b) h
+    (ap (λ y. y * f j) (bit-set-same x j) ∙ ⊎-elim (λ e. rw e (omega arith)) (λ e. rw e (omega arith)) (bit-cases x j))
+    (λ b d. ap (λ y. y * f b) (bit-set-other x j b d))
+
+-- ---- how many bits are set
+
+pub bitCount-clear : (x j : ℕ) → j < 64 → bitCount x ≡ bitCount (withoutBit x j) + bit x j
+unfolding bitCount
+bitCount-clear x j h =
+    sum-differ 64 j (bit x j) (λ b. bit (withoutBit x j) b) (λ b. bit x b) h (omega (arith, bit-clear-same x j)) (λ b d. sym (bit-clear-other x j b d))
+
+pub bitCount-pos : (x j : ℕ) → bit x j ≡ 1 → j < 64 → 0 < bitCount x
+unfolding bitCount
+bitCount-pos x j e h = omega (arith, term-le 64 (λ b. bit x b) j h)
+
+bits-le : (n x : ℕ) → sum n (λ j. bit x j) ≤ n
+unfolding sum
+bits-le zero x = omega arith
+bits-le (suc n) x = omega (arith, bits-le n x, bit-lt x n)
+
+pub bitCount-le : (x : ℕ) → bitCount x ≤ 64
+unfolding bitCount
+bitCount-le x = bits-le 64 x
+
+ones-bit : (x j : ℕ) → ones (bit x j) ≡ bit x j
+unfolding ones
+ones-bit x j = ⊎-elim (λ e. rw e) (λ e. rw e) (bit-cases x j)
+
+-- the machine's count of a number's digits is the sum of its bits
+ones-sum : (n x : ℕ) → x < 2 ^ n → ones x ≡ sum n (λ j. bit x j)
+unfolding ones sum
+ones-sum zero x h = ap ones (lt-one h)
+ones-sum (suc n) x h =
+    let q : bit x n ≡ x / 2 ^ n = mod-eq-of-lt (shr-lt 1 n (subst (λ y. x < 2 ^ y) (sym (one-add n)) h)) in
+    ap ones (sym (split x n))
+    ∙ ones-cat n (x / 2 ^ n) (x % 2 ^ n) (mod-lt x (pow-pos n))
+    ∙ ap₂ (λ y z. y + z) (ap ones (sym q) ∙ ones-bit x n)
+    (ones-sum n (x % 2 ^ n) (mod-lt x (pow-pos n)) ∙ sum-cong n (λ k. bit (x % 2 ^ n) k) (λ k. bit x k) (λ k l. bit-mod x n k l))
+    ∙ add-comm (bit x n) (sum n (λ j. bit x j))
+
+pub bitCount-ones : (x : ℕ) → x < 2 ^ 64 → ones x ≡ bitCount x
+unfolding bitCount
+bitCount-ones x h = ones-sum 64 x h
+
+pub bitCount-low : (n : ℕ) → n ≤ 64 → bitCount (2 ^ n - 1) ≡ n
+bitCount-low n h = sym (bitCount-ones (2 ^ n - 1) (lt-of-lt-of-le (ones-lt n) (pow-mono h))) ∙ ones-ones n
+
+-- ---- the lowest bit that is set
+
+zeros-more : (x t : ℕ) → bit x 0 ≡ 0 → ((i : ℕ) → i < t → bit (x / 2) i ≡ 0) → (i : ℕ) → i < suc t → bit x i ≡ 0
+zeros-more x t e h zero l = e
+zeros-more x t e h (suc i) l = sym (bit-half x i) ∙ h i (omega arith)
+
+-- a number of k digits that is not 0 has its lowest bit above its trailing zeros
+trailing-lowest : (k x : ℕ) → 0 < x → x < 2 ^ k
+    → (trailingZeros k x < k) × (bit x (trailingZeros k x) ≡ 1) × ((i : ℕ) → i < trailingZeros k x → bit x i ≡ 0)
+unfolding trailingZeros
+trailing-lowest zero x p h = absurd (omega arith)
+trailing-lowest (suc k) x p h =
+    elim (bit-cases x 0) [
+      | inr e ↦ let o : x % 2 ≡ 1 = omega arith in rw o (omega arith, e, λ i l. absurd (omega arith))
+      | inl e ↦
+          let z : x % 2 ≡ 0 = omega arith in
+          let t = trailing-lowest k (x / 2) (omega arith) (half-lt x k h) in
+          rw z (omega (arith, t .0), sym (bit-half x (trailingZeros k (x / 2))) ∙ t .1, zeros-more x (trailingZeros k (x / 2)) e (t .2))
+    ]
+
+pub lowest-trailing : (x : ℕ) → 0 < x → x < 2 ^ 64 → Lowest x (trailingZeros 64 x)
+lowest-trailing x p h = let t = trailing-lowest 64 x p h in record { within = t .0; set = t .1; least = t .2 }

@@ -1,0 +1,112 @@
+-- The laws of masks: powers of 2, words of set bits, what is common to two words, and what the code's masks give. Assumes nothing.
+use mathlib.Core.Path.{_≡_, sym, ap, _∙_}
+use mathlib.Core.Logic.{⊎-elim}
+use mathlib.Core.Bool.{true}
+use Prim.Native.Nat.{ℕ, zero, suc, _+_, _-_, _*_, _/_, _%_, _^_, _≤_, _<_}
+use native.Mathlib.Nat.{mod-eq-of-lt, mul-zero, one-mul, mul-one, pow-suc, sub-zero, lt-of-le-of-lt, lt-of-lt-of-le, div-eq-of-lt}
+use native.Mathlib.Decide.{decLt, ℕ-discrete}
+use native.Mathlib.Omega.{arith}
+use lib.Pow.{pow-pos, pow-mono, pow-add, pow-lt}
+use lib.Dec.{eqb, ltb}
+use borrow.Author.Tests.{lt-ltb, le-ltb, eq-eqb, ne-eqb}
+use lib.Bits.{bitAnd, bitOr, and-le-l, and-shr, and-step, and-high, or-add-and}
+use Rattle.sums.specs.Sum.{delta}
+use Rattle.sums.proofs.SumLaws.{delta-refl, delta-diff}
+use Rattle.word.specs.Bit.{bit, withBit, withoutBit}
+use Rattle.word.proofs.BitLaws.{bit-cases, bit-zero, bit-half, bit-set-same, bit-set-other, bit-clear-same, bit-clear-other, clear-le, bits-determine, bit-above-zero, bit-beyond, shr-zero-lt}
+
+-- ---- a power of 2, and the word whose bits below n are set
+
+pub bit-pow : (v j : ℕ) → bit (2 ^ v) j ≡ delta j v
+unfolding withBit
+bit-pow v j =
+    let e : withBit 0 v ≡ 2 ^ v = rw (bit-zero v) (omega arith) in
+    elim (ℕ-discrete j v) [
+      | yes q ↦ rw (q, delta-refl v) (ap (λ y. bit y v) (sym e) ∙ bit-set-same 0 v)
+      | no d ↦ rw (delta-diff j v d) (ap (λ y. bit y j) (sym e) ∙ bit-set-other 0 v j d ∙ bit-zero j)
+    ]
+
+-- a bit of y is set where that of the complement is not
+bit-not : (n y j : ℕ) → y < 2 ^ n → j < n → bit ((2 ^ n - 1) - y) j + bit y j ≡ 1
+bit-not zero y j h l = absurd (omega arith)
+bit-not (suc n) y zero h l = omega (arith, pow-suc 2 n)
+bit-not (suc n) y (suc j) h l =
+    let e : ((2 ^ suc n - 1) - y) / 2 ≡ (2 ^ n - 1) - y / 2 = omega (arith, pow-suc 2 n) in
+    omega (
+      arith,
+      pow-suc 2 n,
+      bit-half ((2 ^ suc n - 1) - y) j,
+      ap (λ x. bit x j) e,
+      bit-half y j,
+      bit-not n (y / 2) j (omega (arith, pow-suc 2 n)) (omega arith),
+    )
+
+pub bit-low : (n j : ℕ) → j < n → bit (2 ^ n - 1) j ≡ 1
+bit-low n j h = omega (arith, bit-not n 0 j (pow-pos n) h, ap (λ y. bit y j) (sub-zero (2 ^ n - 1)), bit-zero j)
+
+-- ---- what is common to two words
+
+pub bit-and : (x y j : ℕ) → bit (bitAnd x y) j ≡ bit x j * bit y j
+bit-and x y j =
+    ap (λ z. z % 2) (and-shr x y j)
+    ∙ ⊎-elim
+    (λ e. omega (arith, and-step (x / 2 ^ j) (y / 2 ^ j), ap (λ b. b * bit y j) e))
+    (λ e. omega (arith, and-step (x / 2 ^ j) (y / 2 ^ j), ap (λ b. b * bit y j) e))
+    (bit-cases x j)
+
+pub and-zero : (x y : ℕ) → bitAnd x y ≡ 0 → (j : ℕ) → bit x j ≡ 1 → bit y j ≡ 0
+and-zero x y e j h = sym (rw h (one-mul (bit y j))) ∙ sym (bit-and x y j) ∙ ap (λ z. bit z j) e ∙ bit-zero j
+
+-- two words that have something in common have a bit in common
+pub and-some : (x y n : ℕ) → x < 2 ^ n → (bitAnd x y ≡ 0 → ⊥) → (j : ℕ) × (j < n) × (bit x j ≡ 1) × (bit y j ≡ 1)
+and-some x y n h d =
+    let r = bit-beyond 0 (bitAnd x y) (omega (arith, d)) in
+    let e : bit x (r .0) * bit y (r .0) ≡ 1 = sym (bit-and x y (r .0)) ∙ r .2 in
+    let p : bit x (r .0) ≡ 1 = ⊎-elim (λ z. absurd (omega (arith, ap (λ b. b * bit y (r .0)) z))) (λ o. o) (bit-cases x (r .0)) in
+    let q : bit y (r .0) ≡ 1 = omega (arith, ap (λ b. b * bit y (r .0)) p) in
+    (r .0, elim (decLt (r .0) n) [ yes l ↦ l | no l ↦ absurd (omega (arith, bit-above-zero x n (r .0) h (omega arith))) ], p, q)
+
+-- ---- what the code's masks give
+
+-- 1 << j in a word, as the prover states a shift
+pub one-shl : (j : ℕ) → j < 64 → (1 * 2 ^ j) % 2 ^ 64 ≡ 2 ^ j
+one-shl j h = ap (λ y. y % 2 ^ 64) (one-mul (2 ^ j)) ∙ mod-eq-of-lt (pow-lt h)
+
+and-pow : (x j : ℕ) → bitAnd x (2 ^ j) ≡ bit x j * 2 ^ j
+and-pow x j =
+    let e : 2 ^ (1 + j) - 2 ^ j ≡ 2 ^ j = omega (arith, pow-add 2 1 j) in
+    ap (λ y. bitAnd x y) (sym e) ∙ and-high x 1 j
+
+pub or-pow : (x j : ℕ) → bitOr x (2 ^ j) ≡ withBit x j
+unfolding withBit
+or-pow x j =
+    ⊎-elim
+    (λ e. omega (arith, or-add-and x (2 ^ j), and-pow x j, ap (λ y. y * 2 ^ j) e, ap (λ y. (1 - y) * 2 ^ j) e))
+    (λ e. omega (arith, or-add-and x (2 ^ j), and-pow x j, ap (λ y. y * 2 ^ j) e, ap (λ y. (1 - y) * 2 ^ j) e))
+    (bit-cases x j)
+
+pub and-not-pow : (n x j : ℕ) → x < 2 ^ n → j < n → bitAnd x ((2 ^ n - 1) - 2 ^ j) ≡ withoutBit x j
+and-not-pow n x j h l =
+    bits-determine n _ _ (lt-of-le-of-lt (and-le-l x ((2 ^ n - 1) - 2 ^ j)) h) (lt-of-le-of-lt (clear-le x j) h) (λ k kn. bit-and x ((2 ^ n - 1) - 2 ^ j) k ∙ at k kn)
+  where
+    at : (k : ℕ) → k < n → bit x k * bit ((2 ^ n - 1) - 2 ^ j) k ≡ bit (withoutBit x j) k
+    at k kn =
+        elim (ℕ-discrete k j) [
+          | yes e ↦
+              let z : bit ((2 ^ n - 1) - 2 ^ j) k ≡ 0 = omega (arith, bit-not n (2 ^ j) k (pow-lt l) kn, bit-pow j k ∙ ap (λ i. delta i j) e ∙ delta-refl j) in
+              rw (z, mul-zero, e) (sym (bit-clear-same x j))
+          | no d ↦
+              let o : bit ((2 ^ n - 1) - 2 ^ j) k ≡ 1 = omega (arith, bit-not n (2 ^ j) k (pow-lt l) kn, bit-pow j k ∙ delta-diff k j d) in
+              rw (o, mul-one) (sym (bit-clear-other x j k d))
+        ]
+
+-- nothing is left of x shifted by n if and only if x has n digits
+pub shr-none : (n x : ℕ) → eqb (x / 2 ^ n) 0 ≡ ltb x (2 ^ n)
+shr-none n x =
+    elim (decLt x (2 ^ n)) [
+      | yes l ↦ eq-eqb (x / 2 ^ n) 0 (div-eq-of-lt l) ∙ sym (lt-ltb x (2 ^ n) l)
+      | no l ↦ ne-eqb (x / 2 ^ n) 0 (λ e. l (shr-zero-lt n x e)) ∙ sym (le-ltb x (2 ^ n) (omega arith))
+    ]
+
+pub word-below : (n x : ℕ) → 64 ≤ n → x < 2 ^ 64 → true ≡ ltb x (2 ^ n)
+word-below n x h l = sym (lt-ltb x (2 ^ n) (lt-of-lt-of-le l (pow-mono h)))

@@ -1,0 +1,50 @@
+-- The laws of arithmetic modulo 2 ^ 64: the difference, and the product by halves. Assumes nothing.
+use mathlib.Core.Path.{_≡_, refl, sym, ap, ap₂, _∙_}
+use Prim.Native.Nat.{ℕ, _+_, _*_, _/_, _%_, _^_, _<_}
+use native.Mathlib.Nat.{mod-mod, mod-add-mod, mul-assoc, mul-add, add-mul, mul-right-comm, mul-left-comm, mul-mul-mul-comm, add-mul-mod-self-right}
+use native.Mathlib.Omega.{arith}
+use lib.Pow.{split}
+use Rattle.sums.specs.Modulo.{Congruent}
+use Rattle.sums.proofs.ModuloLaws.{congruent-add, congruent-product}
+use Rattle.word.specs.Wrap.{minus}
+
+-- ---- the difference
+
+pub minus-add : (x y : ℕ) → x < 2 ^ 64 → (minus x y + y) % 2 ^ 64 ≡ x
+unfolding minus
+minus-add x y h = omega arith
+
+-- the difference is the only word that y added to wraps back to x
+pub minus-only : (r x y : ℕ) → r < 2 ^ 64 → (r + y) % 2 ^ 64 ≡ x → r ≡ minus x y
+unfolding minus
+minus-only r x y h e = omega arith
+
+-- ---- the product
+
+-- a product by halves of base h
+product-halves : (h a₁ a₀ b₁ b₀ : ℕ) → ((a₁ * b₀ + b₁ * a₀) * h + a₀ * b₀) + a₁ * b₁ * (h * h) ≡ (a₁ * h + a₀) * (b₁ * h + b₀)
+product-halves h a₁ a₀ b₁ b₀ =
+    omega (
+      arith,
+      add-mul (a₁ * h) a₀ (b₁ * h + b₀),
+      mul-add (a₁ * h) (b₁ * h) b₀,
+      mul-add a₀ (b₁ * h) b₀,
+      add-mul (a₁ * b₀) (b₁ * a₀) h,
+      mul-mul-mul-comm a₁ h b₁ h,
+      mul-right-comm a₁ h b₀,
+      mul-left-comm a₀ b₁ h,
+      mul-assoc b₁ a₀ h,
+    )
+
+-- the product of two words, from x, the sum of the cross products, and the product of the low halves l and m
+pub product-wraps : (a b l m x r : ℕ) → l ≡ a % 2 ^ 32 → m ≡ b % 2 ^ 32 → x ≡ (a / 2 ^ 32 * m + b / 2 ^ 32 * l) % 2 ^ 64
+    → r ≡ (x * 2 ^ 32 % 2 ^ 64 + l * m) % 2 ^ 64 → r ≡ a * b % 2 ^ 64
+product-wraps a b l m x r el em ex er =
+    let s : ℕ = a / 2 ^ 32 * m + b / 2 ^ 32 * l in
+    let ec : Congruent (2 ^ 64) x s = ap (λ y. y % 2 ^ 64) ex ∙ mod-mod s (2 ^ 64) in
+    er
+    ∙ mod-add-mod (x * 2 ^ 32) (2 ^ 64) (l * m)
+    ∙ congruent-add (2 ^ 64) (x * 2 ^ 32) (l * m) (s * 2 ^ 32) (l * m) (congruent-product (2 ^ 64) x (2 ^ 32) s (2 ^ 32) ec refl) refl
+    ∙ sym (add-mul-mod-self-right (s * 2 ^ 32 + l * m) (a / 2 ^ 32 * (b / 2 ^ 32)) (2 ^ 64))
+    ∙ ap (λ y. y % 2 ^ 64) (product-halves (2 ^ 32) (a / 2 ^ 32) l (b / 2 ^ 32) m)
+    ∙ ap₂ (λ y z. y * z % 2 ^ 64) (rw el (split a 32)) (rw em (split b 32))

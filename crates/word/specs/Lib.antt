@@ -1,0 +1,3 @@
+-- The definitions that the contracts of `src/lib.rt` cite. Assumes nothing.
+pub mod Bit
+pub mod Wrap
