@@ -2,17 +2,15 @@
 -- Assumes nothing.
 use mathlib.Core.Path.{_≡_, refl, sym, ap, _∙_}
 use mathlib.Core.Logic.{_⊎_, inl, inr}
-use mathlib.Core.Bool.{_||_}
-use mathlib.Core.List.{List, [], _∷_}
+use mathlib.Core.List.{List, []}
 use Prim.Native.Nat.{ℕ, zero, suc, _≤_, _<_}
 use native.Mathlib.Omega.{arith}
-use lib.Dec.{leb}
 use lib.ListN.{length, getD}
 use Rattle.sheet.specs.declared.answer.Answer.{Answer}
-use Rattle.sheet.specs.Table.{_gives_, Tests, firstTrue}
+use Rattle.sheet.specs.Table.{Tests, firstTrue}
 use Rattle.sheet.specs.Answers.{answer, decided, answered}
 use Rattle.sheet.specs.Layout.{countAt, emptySheet}
-use Rattle.sheet.specs.Conditions.{sizedTests}
+use Rattle.sheet.specs.Conditions.{vertexTests, sizedTests}
 use Rattle.sheet.specs.Calls.{emptyAnswer, emptyAfter, pathCountAnswer}
 use Rattle.sheet.specs.Internal.{shapeNumber, Place}
 use Rattle.sheet.proofs.TableLaws.{reflects-or, reflects-le, reflects-false, first-here, first-next, first-none}
@@ -53,11 +51,11 @@ module _ (n : ℕ) (s : List ℕ) (k : ℕ) (ek : k ≡ shapeNumber n (length s)
 
   module _ (i j : ℕ) where
     pub path-count-refused : (r : Answer) → r ≡ answer k 0 0 → (k ≡ 0 → ⊥) → r ≡ pathCountAnswer n s i j
-    path-count-refused r er h = answered-stops ((leb n i || leb n j) gives 3 ∷ []) (countAt n s i j) r er h
+    path-count-refused r er h = answered-stops (vertexTests n i j) (countAt n s i j) r er h
 
     no-vertex : (r : Answer) → r ≡ answer 3 0 0 → k ≡ 0 → ((n ≤ i) ⊎ (n ≤ j)) → r ≡ pathCountAnswer n s i j
     no-vertex r er z h =
-        er ∙ sym (answered-passes ((leb n i || leb n j) gives 3 ∷ []) 3 (countAt n s i j) z (first-here _ _ (reflects-or (reflects-le n i) (reflects-le n j) .shows h)))
+        er ∙ sym (answered-passes (vertexTests n i j) 3 (countAt n s i j) z (first-here _ _ (reflects-or (reflects-le n i) (reflects-le n j) .shows h)))
 
     pub path-count-from : (r : Answer) → r ≡ answer 3 0 0 → k ≡ 0 → n ≤ i → r ≡ pathCountAnswer n s i j
     path-count-from r er z h = no-vertex r er z (inl h)
@@ -72,5 +70,5 @@ module _ (n : ℕ) (s : List ℕ) (k : ℕ) (ek : k ≡ shapeNumber n (length s)
     path-count-accepted p r er z hi hj at =
         er
         ∙ ap (λ (x : ℕ). answer 0 0 (getD s x 0)) (at .is)
-        ∙ sym (answered-passes ((leb n i || leb n j) gives 3 ∷ []) 0 (countAt n s i j) z
+        ∙ sym (answered-passes (vertexTests n i j) 0 (countAt n s i j) z
         (first-next _ _ (reflects-false (reflects-or (reflects-le n i) (reflects-le n j)) .1 (λ c. elim c [ inl l ↦ omega arith | inr l ↦ omega arith ])) ∙ first-none))

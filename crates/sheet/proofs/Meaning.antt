@@ -1,6 +1,6 @@
 -- WHAT THE CALLS MEAN, in terms of paths, cycles and valid sheets. Assumes nothing.
 use mathlib.Core.Path.{_≡_, refl, sym, ap, ap₂, subst, _∙_}
-use mathlib.Core.Logic.{_⊎_, inl, inr, _↔_}
+use mathlib.Core.Logic.{inl, inr, _↔_}
 use mathlib.Core.List.{List, [], _∷_}
 use Prim.Native.Nat.{ℕ, _+_, _*_, _%_, _^_, _≤_, _<_}
 use native.Mathlib.Nat.{mod-eq-of-lt, zero-mul}
@@ -20,7 +20,7 @@ use Rattle.sheet.specs.declared.answer.Answer.{Answer}
 use Rattle.sheet.specs.Table.{_gives_, First}
 use Rattle.sheet.specs.Answers.{decided}
 use Rattle.sheet.specs.Layout.{size, rowAt, countAt, edgeAt, build, emptySheet}
-use Rattle.sheet.specs.Conditions.{BadCount, BadLength, NoVertex, StrayRow}
+use Rattle.sheet.specs.Conditions.{BadCount, BadLength, StrayRow, vertexConditions, rowConditions}
 use Rattle.sheet.specs.Valid.{Valid}
 use Rattle.sheet.specs.Calls.{emptyAnswer, emptyAfter, pathCountAnswer, recountConditions, Recounted, Recount, validateConditions, Validate}
 use Rattle.sheet.specs.Internal.{Shape, successorsSum, RowHolds}
@@ -29,7 +29,7 @@ use Rattle.sheet.proofs.ShapeLaws.{accepted-shape, shape-not, shape-pas
 use Rattle.sheet.proofs.AnswerLaws.{answer-ext}
 use Rattle.sheet.proofs.LayoutLaws.{place-lt, length-build, length-redone, row-redone, count-redone}
 use Rattle.sheet.proofs.ValidLaws.{valid-shape, valid-iff-holds, valid-only}
-use Rattle.sheet.proofs.CallLaws.{setBits-cong, further}
+use Rattle.sheet.proofs.RowLaws.{setBits-cong}
 use Rattle.sheet.proofs.Refusals.{empty-table, path-count-table}
 
 -- ---- empty
@@ -81,7 +81,7 @@ empty-leaves n s z =
 pub path-count-exact : (n : ℕ) (s : List ℕ) (i j : ℕ) → Valid n s → i < n → j < n → Exactly (Path n (edgeAt s) i j) (pathCountAnswer n s i j .value)
 path-count-exact n s i j v hi hj =
     let z : pathCountAnswer n s i j .number ≡ 0
-    = path-count-table n s i j 0 .1 (shape-passed n s (valid-shape n s v) ((NoVertex n i ⊎ NoVertex n j) gives 3 ∷ []) 0 (inr (λ c. elim c [ inl l ↦ omega arith | inr l ↦ omega arith ], refl))) in
+    = path-count-table n s i j 0 .1 (shape-passed n s (valid-shape n s v) (vertexConditions n i j) 0 (inr (λ c. elim c [ inl l ↦ omega arith | inr l ↦ omega arith ], refl))) in
     subst (Exactly (Path n (edgeAt s) i j)) (sym (ap (λ (k : ℕ). decided k (countAt n s i j) 0) z)) (v .counts i j hi hj)
 
 -- ---- recount
@@ -158,8 +158,8 @@ module _ (n : ℕ) (s s′ : List ℕ) (long : length s ≡ length s′) (same :
 
   same-first : (k : ℕ) → First (recountConditions n s) k → First (recountConditions n s′) k
   same-first k =
-      first-cong {P = BadCount n} {Q = BadCount n} 1 (BadLength n s gives 2 ∷ further n s) (BadLength n s′ gives 2 ∷ further n s′) k ((λ p. p), (λ p. p))
-      (first-cong {P = BadLength n s} {Q = BadLength n s′} 2 (further n s) (further n s′) k ((λ p e. p (long ∙ e)), (λ p e. p (sym long ∙ e)))
+      first-cong {P = BadCount n} {Q = BadCount n} 1 (BadLength n s gives 2 ∷ rowConditions n s) (BadLength n s′ gives 2 ∷ rowConditions n s′) k ((λ p. p), (λ p. p))
+      (first-cong {P = BadLength n s} {Q = BadLength n s′} 2 (rowConditions n s) (rowConditions n s′) k ((λ p e. p (long ∙ e)), (λ p e. p (sym long ∙ e)))
       (first-cong 4 (Cycle n (edgeAt s) gives 8 ∷ []) (Cycle n (edgeAt s′) gives 8 ∷ []) k (same-stray n s s′ same, same-stray n s′ s back)
       (first-cong 8 [] [] k (same-cycle n s s′ same, same-cycle n s′ s back) (λ p. p))))
 
@@ -191,7 +191,7 @@ pub recount-same : (n : ℕ) (s : List ℕ) (r : Answer) (t : List ℕ) → Vali
 recount-same n s r t v h =
     let z : r .number ≡ 0
     = first-only (recountConditions n s) (r .number) 0 (h .number)
-    (shape-passed n s (valid-shape n s v) (further n s) 0 (inr (v .rows, inr (v .acyclic, refl)))) in
+    (shape-passed n s (valid-shape n s v) (rowConditions n s) 0 (inr (v .rows, inr (v .acyclic, refl)))) in
     let w = recount-valid n s r t h z in
     (z, valid-only n t s (w .0) v (w .1))
 

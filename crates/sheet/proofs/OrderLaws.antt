@@ -1,6 +1,6 @@
--- Taking away vertices: what is known of those taken away and those left stays known, and where none can be taken away there is a
--- cycle. Assumes nothing.
-use mathlib.Core.Path.{_≡_, refl, sym, _∙_}
+-- Taking away vertices: what is known of those taken away and those left stays known; where none can be taken away there is a
+-- cycle, and where none is left there is none. Assumes nothing.
+use mathlib.Core.Path.{_≡_, refl, sym, _∙_, ap}
 use mathlib.Core.Logic.{inl, inr}
 use mathlib.Core.Bool.{Bool, true, false, cond}
 use mathlib.Core.List.{List}
@@ -13,15 +13,15 @@ use lib.Dec.{eqb}
 use lib.ListN.{length, getD, set, length-set}
 use lib.Pow.{pow-pos}
 use lib.Seq.{getD-set-same, getD-set-other}
-use Rattle.word.specs.Bit.{bit, hasBit, withoutBit}
-use Rattle.word.proofs.BitLaws.{bit-cases, bit-clear-other, clear-le, clear-lt, bit-above-zero, bit-beyond, has-true, has-false}
+use Rattle.word.specs.Bit.{bit, hasBit, withoutBit, bitCount}
+use Rattle.word.proofs.BitLaws.{bit-cases, bit-clear-other, clear-le, clear-lt, bit-above-zero, bit-beyond, has-true, has-false, bit-zero}
 use Rattle.word.proofs.MaskLaws.{and-zero, and-some, bit-low}
 use Rattle.word.proofs.CountLaws.{bitCount-clear, bitCount-pos, bitCount-low}
-use Rattle.graph.specs.Graph.{Edge}
-use Rattle.graph.proofs.Peeling.{stuck-cycle}
+use Rattle.graph.specs.Graph.{Edge, Acyclic}
+use Rattle.graph.proofs.Peeling.{stuck-cycle, order-acyclic}
 use Rattle.sheet.specs.declared.order.Peeling.{Peeling}
 use Rattle.sheet.specs.Layout.{rowAt, edgeAt}
-use Rattle.sheet.specs.Internal.{RowsBelow, Peeled, without, lookedAt, Free, Looked, PeeledOut}
+use Rattle.sheet.specs.Internal.{RowsBelow, Peeled, without, lookedAt, Free, Looked, PeeledOut, vertexAt}
 
 -- ---- the ways out of `look_at`
 
@@ -162,3 +162,15 @@ module _ (n : ℕ) (s : List ℕ) (high : n ≤ 64) (rows : RowsBelow n s) where
         let r = and-some (rowAt s a) (p .left) n (rows a ha) (h .stuck e a (omega arith) ha la) in
         (r .0, r .1, omega (arith, r .2), r .3)));
   }
+
+-- ---- all vertices taken away
+
+module _ (n : ℕ) (s : List ℕ) (p : Peeling) (h : Peeled n s p) (none : p .left ≡ 0) where
+  pub peeled-all : p .count ≡ n
+  peeled-all = omega (arith, h .total, ap bitCount none ∙ bitCount-low 0 (omega arith))
+
+  pub peeled-entry : (i : ℕ) → i < n → (m : ℕ) × (m < p .count) × (vertexAt p m ≡ i)
+  peeled-entry i hi = h .taken i hi (ap (λ (x : ℕ). bit x i) none ∙ bit-zero i)
+
+  pub peeled-acyclic : Acyclic n (edgeAt s)
+  peeled-acyclic = order-acyclic n (edgeAt s) (p .count) (vertexAt p) (h .order) peeled-entry

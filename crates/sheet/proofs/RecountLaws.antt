@@ -1,6 +1,7 @@
 -- Filling the counts row by row, each from those of its successors, in an order in which every edge leads to an earlier vertex: the
--- counts become the numbers of paths. Then the ways out of `recount` and of `is_valid`. Assumes nothing.
-use mathlib.Core.Path.{_≡_, refl, sym, ap, _∙_}
+-- counts become the numbers of paths. Then the ways out of `recount`: r is what the call answers, k what the check of the shape gave.
+-- Assumes nothing.
+use mathlib.Core.Path.{_≡_, refl, sym, ap, _∙_, subst}
 use mathlib.Core.Logic.{_⊎_, inl, inr}
 use mathlib.Core.Bool.{Bool, true, false}
 use mathlib.Core.List.{List}
@@ -12,34 +13,25 @@ use lib.ListN.{length, getD}
 use Rattle.sums.specs.Sum.{sum, delta}
 use Rattle.sums.specs.Modulo.{Congruent}
 use Rattle.sums.proofs.ModuloLaws.{congruent-add, congruent-mul, congruent-sum}
-use Rattle.word.specs.Bit.{bit, bitCount}
-use Rattle.word.proofs.BitLaws.{bit-zero}
-use Rattle.word.proofs.CountLaws.{bitCount-low}
-use Rattle.graph.specs.Graph.{Acyclic}
+use Rattle.word.specs.Bit.{bit}
+use Rattle.graph.specs.Graph.{Exactly, Path, Cycle}
 use Rattle.graph.specs.Count.{pathCount}
 use Rattle.graph.proofs.Recurrence.{pathCount-recurrence}
-use Rattle.graph.proofs.Peeling.{order-acyclic}
 use Rattle.sheet.specs.declared.order.Peeling.{Peeling}
-use Rattle.sheet.specs.Table.{Reflects}
-use Rattle.sheet.specs.Conditions.{StrayRow}
-use Rattle.sheet.specs.Valid.{Valid}
-use Rattle.sheet.specs.Layout.{rowAt, countAt, edgeAt, redone}
-use Rattle.sheet.specs.Internal.{Shape, successorsSum, RowHolds, RowFilled, RowsBelow, vertexAt, Peeled, PeeledOut}
-use Rattle.sheet.proofs.TableLaws.{reflects-none, reflects-false, reflects-iff}
-use Rattle.sheet.proofs.ValidLaws.{valid-iff-holds}
-use Rattle.sheet.proofs.LayoutLaws.{row-within, place-apart, redone-ext}
-
--- ---- all vertices taken away
-
-module _ (n : ℕ) (s : List ℕ) (p : Peeling) (h : Peeled n s p) (none : p .left ≡ 0) where
-  pub peeled-all : p .count ≡ n
-  peeled-all = omega (arith, h .total, ap bitCount none ∙ bitCount-low 0 (omega arith))
-
-  pub peeled-entry : (i : ℕ) → i < n → (m : ℕ) × (m < p .count) × (vertexAt p m ≡ i)
-  peeled-entry i hi = h .taken i hi (ap (λ (x : ℕ). bit x i) none ∙ bit-zero i)
-
-  pub peeled-acyclic : Acyclic n (edgeAt s)
-  peeled-acyclic = order-acyclic n (edgeAt s) (p .count) (vertexAt p) (h .order) peeled-entry
+use Rattle.sheet.specs.Table.{Reflects, First}
+use Rattle.sheet.specs.Conditions.{StrayRow, rowConditions}
+use Rattle.sheet.specs.Layout.{rowAt, countAt, edgeAt, setBits}
+use Rattle.sheet.specs.Internal.{Shape, successorsSum, RowFilled, RowsBelow, vertexAt, Peeled, PeeledOut, shapeNumber, counted}
+use Rattle.sheet.proofs.TableLaws.{reflects-false}
+use Rattle.sheet.proofs.ValidLaws.{paths-exactly, paths-fit}
+use Rattle.sheet.proofs.LayoutLaws.{row-within, place-apart, redone-ext, length-redone, row-redone, count-redone, rest-redone}
+use Rattle.sheet.specs.declared.answer.Answer.{Answer}
+use Rattle.sheet.specs.Answers.{answer}
+use Rattle.sheet.specs.Calls.{recountConditions, Recounted, Recount}
+use Rattle.sheet.proofs.ShapeLaws.{shape-of, shape-refused, shape-passed}
+use Rattle.sheet.proofs.AnswerLaws.{decided-old}
+use Rattle.sheet.proofs.OrderLaws.{peeled-all, peeled-entry, peeled-acyclic}
+use Rattle.sheet.proofs.RowLaws.{setBits-cong}
 
 -- ---- the counts filled so far
 
@@ -102,7 +94,7 @@ module _ (n : ℕ) (s : List ℕ) (p : Peeling) (h : Peeled n s p) (none : p .le
   -- ---- all rows
 
   pub filled-all : (t : List ℕ) (k : ℕ) → Filled n s (vertexAt p) k t → k ≡ n
-      → t ≡ redone n (rowAt s) (λ (i j : ℕ). pathCount n (edgeAt s) i j % 2 ^ 64) s
+      → t ≡ counted n s
   filled-all t k f e =
       redone-ext n (rowAt s) (λ i j. pathCount n (edgeAt s) i j % 2 ^ 64) s t (f .long) (λ i hi. f .kept i (inl hi))
       (λ i j hi hj. let o = peeled-entry n s p h none i hi in rw (← (o .2)) (f .done (o .0) (omega (arith, o .1, peeled-all n s p h none)) j hj))
@@ -115,17 +107,61 @@ module _ (n : ℕ) (s : List ℕ) (p : Peeling) (h : Peeled n s p) (none : p .le
   pub filled-below : (t : List ℕ) (k : ℕ) → Filled n s (vertexAt p) k t → RowsBelow n s → (i : ℕ) → i < n → rowAt t i < 2 ^ n
   filled-below t k f rows i hi = rw (f .kept i (inl hi)) (rows i hi)
 
--- ---- the ways out of `is_valid`
+-- ---- the ways out of `recount`
 
-module _ (n : ℕ) (s : List ℕ) (shape : Shape n s) where
-  pub valid-stray : (t : Bool) → Reflects t (StrayRow n s) → t ≡ true → Reflects false (Valid n s)
-  valid-stray t r e = reflects-none (λ v. v .rows (r .holds e))
+-- a sheet whose counts are the numbers of paths, and which is s besides, is s recounted
+pub recounted-of : (n : ℕ) (s t : List ℕ) → Shape n s → ¬ (Cycle n (edgeAt s)) → t ≡ counted n s → Recounted n s t
+recounted-of n s t shape acyclic e =
+    let c : ℕ → ℕ → ℕ = λ i j. pathCount n (edgeAt s) i j % 2 ^ 64 in
+    let count : (i j : ℕ) → i < n → j < n → countAt n t i j ≡ pathCount n (edgeAt s) i j
+    = λ i j hi hj. ap (λ (l : List ℕ). countAt n l i j) e ∙ count-redone n (rowAt s) c s (shape .long) i j hi hj ∙ paths-fit n s (shape .high) acyclic i j hi hj in
+    record {
+      kept = redone-ext n (rowAt s) (countAt n t) s t (ap length e ∙ length-redone n (rowAt s) c s)
+          (λ i hi. ap (λ (l : List ℕ). rowAt l i) e ∙ row-redone n (rowAt s) c s (shape .long) i hi)
+          (λ i j hi hj. refl)
+          (λ k q. ap (λ (l : List ℕ). getD l k 0) e ∙ rest-redone n (rowAt s) c s k q);
+      counts = λ i j hi hj. subst (Exactly (Path n (edgeAt s) i j)) (sym (count i j hi hj)) (paths-exactly n s (shape .high) acyclic i j hi);
+    }
 
-  pub valid-cycle : (p : Peeling) → PeeledOut n s p → (p .left ≡ 0 → ⊥) → Reflects false (Valid n s)
-  valid-cycle p o d = elim (o .all) [ inl z ↦ absurd (d z) | inr c ↦ reflects-none (λ v. v .acyclic c) ]
+module _ (n : ℕ) (s : List ℕ) (k : ℕ) (ek : k ≡ shapeNumber n (length s)) where
+  -- refused by m: nothing is written
+  stopped : (m : ℕ) (r : Answer) → r ≡ answer m 0 0 → (m ≡ 0 → ⊥) → First (recountConditions n s) m → Recount n s r s
+  stopped m r er d f = rw er record {
+    number = f;
+    place = refl;
+    value = sym (decided-old m (setBits n s) 0 d);
+    accepted = λ z. absurd (d z);
+    refused = λ z. refl;
+  }
 
-  pub valid-holds : (t : Bool) → Reflects t (StrayRow n s) → t ≡ false → (p : Peeling) → PeeledOut n s p → p .left ≡ 0
-      → (b : Bool) → Reflects b ((i : ℕ) → i < n → RowHolds n s i) → Reflects b (Valid n s)
-  valid-holds t r e p o z b q =
-      let iff = valid-iff-holds n s shape (reflects-false r .0 e) (peeled-acyclic n s p (o .peeled) z) in
-      reflects-iff (iff .1) (iff .0) q
+  pub recount-refused : (r : Answer) → r ≡ answer k 0 0 → (k ≡ 0 → ⊥) → Recount n s r s
+  recount-refused r er d = stopped k r er d (shape-refused n s k ek d (rowConditions n s))
+
+  -- once the counts are filled the sheet has its shape still
+  pub recount-shape : (t : List ℕ) → k ≡ 0 → t ≡ counted n s → Shape n t
+  recount-shape t z e =
+      let shape = shape-of n s k ek z in
+      record { low = shape .low; high = shape .high; long = ap length e ∙ length-redone n (rowAt s) _ s ∙ shape .long }
+
+  module _ (z : k ≡ 0) (stray : Bool) (es : Reflects stray (StrayRow n s)) where
+    pub recount-stray : (r : Answer) → r ≡ answer 4 0 0 → stray ≡ true → Recount n s r s
+    recount-stray r er e = stopped 4 r er (λ q. omega arith) (shape-passed n s (shape-of n s k ek z) (rowConditions n s) 4 (inl (es .holds e, refl)))
+
+    module _ (clean : stray ≡ false) (p : Peeling) (ep : PeeledOut n s p) where
+      pub recount-cycle : (r : Answer) → r ≡ answer 8 0 0 → (p .left ≡ 0 → ⊥) → Recount n s r s
+      recount-cycle r er d =
+          let c : Cycle n (edgeAt s) = elim (ep .all) [ inl q ↦ absurd (d q) | inr q ↦ q ] in
+          stopped 8 r er (λ q. omega arith) (shape-passed n s (shape-of n s k ek z) (rowConditions n s) 8 (inr (reflects-false es .0 clean, inl (c, refl))))
+
+      pub recount-accepted : (r : Answer) (v : ℕ) (t : List ℕ) → r ≡ answer 0 0 v → v ≡ setBits n t → p .left ≡ 0
+          → t ≡ counted n s → Recount n s r t
+      recount-accepted r v t er ev none e =
+          let shape = shape-of n s k ek z in
+          let acyclic = peeled-acyclic n s p (ep .peeled) none in
+          rw er record {
+            number = shape-passed n s shape (rowConditions n s) 0 (inr (reflects-false es .0 clean, inr (acyclic, refl)));
+            place = refl;
+            value = ev ∙ setBits-cong n t s (λ i hi. ap (λ (l : List ℕ). rowAt l i) e ∙ row-redone n (rowAt s) _ s (shape .long) i hi);
+            accepted = λ q. recounted-of n s t shape acyclic e;
+            refused = λ d. absurd (d refl);
+          }

@@ -24,6 +24,7 @@ use Rattle.sheet.specs.Layout.{size, rowAt, countAt, setBits}
 use Rattle.sheet.specs.Fill.{over}
 use Rattle.sheet.specs.Internal.{RowBase, RowAdded, RowsSummed, successorsSum, SuccessorsSummed, SameRow, RowHolds, RowFilled}
 use Rattle.sheet.proofs.FillLaws.{length-puts, over-in, over-out}
+use Rattle.sums.proofs.SumLaws.{sum-cong}
 
 -- ---- a row added to another, word by word
 
@@ -200,3 +201,8 @@ pub setBits-le : (s : List ℕ) (i : ℕ) → setBits i s ≤ 64 * i
 unfolding setBits sum
 setBits-le s zero = omega arith
 setBits-le s (suc i) = omega (arith, setBits-le s i, bitCount-le (rowAt s i))
+
+-- the set bits of the rows are told by the rows
+pub setBits-cong : (n : ℕ) (s t : List ℕ) → ((i : ℕ) → i < n → rowAt s i ≡ rowAt t i) → setBits n s ≡ setBits n t
+unfolding setBits
+setBits-cong n s t h = sum-cong n _ _ (λ i hi. ap bitCount (h i hi))

@@ -1,16 +1,14 @@
 -- What the public calls answer and leave, for every n and all words. Definitions only. Assumes nothing.
 use mathlib.Core.Path.{_≡_}
 use mathlib.Core.Logic.{_⊎_}
-use mathlib.Core.Bool.{_||_}
-use mathlib.Core.List.{List, [], _∷_}
+use mathlib.Core.List.{List, []}
 use Prim.Native.Nat.{ℕ, _<_}
-use lib.Dec.{leb}
-use Rattle.graph.specs.Graph.{Exactly, Path, Cycle}
+use Rattle.graph.specs.Graph.{Exactly, Path}
 use Rattle.sheet.specs.declared.answer.Answer.{Answer}
-use Rattle.sheet.specs.Table.{_gives_, Conditions, First, firstTrue}
+use Rattle.sheet.specs.Table.{Conditions, First, firstTrue}
 use Rattle.sheet.specs.Answers.{decided, answered}
 use Rattle.sheet.specs.Layout.{rowAt, countAt, edgeAt, setBits, redone, emptySheet}
-use Rattle.sheet.specs.Conditions.{NoVertex, StrayRow, sized, sizedTests}
+use Rattle.sheet.specs.Conditions.{vertexConditions, vertexTests, rowConditions, sized, sizedTests}
 use Rattle.sheet.specs.Valid.{Valid}
 
 -- ---- empty: an empty sheet
@@ -30,10 +28,10 @@ emptyAfter n s = decided (emptyNumber n s) (emptySheet n) s
 -- ---- path_count: the count from i to j, as it stands in the sheet
 
 abbrev pub pathCountConditions : ℕ → List ℕ → ℕ → ℕ → Conditions
-pathCountConditions n s i j = sized n s ((NoVertex n i ⊎ NoVertex n j) gives 3 ∷ [])
+pathCountConditions n s i j = sized n s (vertexConditions n i j)
 
 abbrev pub pathCountNumber : ℕ → List ℕ → ℕ → ℕ → ℕ
-pathCountNumber n s i j = firstTrue (sizedTests n s ((leb n i || leb n j) gives 3 ∷ []))
+pathCountNumber n s i j = firstTrue (sizedTests n s (vertexTests n i j))
 
 abbrev pub pathCountAnswer : ℕ → List ℕ → ℕ → ℕ → Answer
 pathCountAnswer n s i j = answered (pathCountNumber n s i j) (countAt n s i j)
@@ -41,7 +39,7 @@ pathCountAnswer n s i j = answered (pathCountNumber n s i j) (countAt n s i j)
 -- ---- recount: the counts worked out from the rows (document 01: the survey)
 
 abbrev pub recountConditions : ℕ → List ℕ → Conditions
-recountConditions n s = sized n s (StrayRow n s gives 4 ∷ Cycle n (edgeAt s) gives 8 ∷ [])
+recountConditions n s = sized n s (rowConditions n s)
 
 -- t is s but for its counts, and each of these is the number of paths over the rows of s
 pub record Recounted (n : ℕ) (s t : List ℕ) : Type 0 where

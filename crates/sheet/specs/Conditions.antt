@@ -3,12 +3,13 @@
 use mathlib.Core.Path.{_≡_}
 use mathlib.Core.Logic.{_⊎_}
 use mathlib.Core.Bool.{not, _||_}
-use mathlib.Core.List.{List, _∷_}
+use mathlib.Core.List.{List, [], _∷_}
 use Prim.Native.Nat.{ℕ, _≤_, _<_}
-use lib.Dec.{ltb, eqb}
+use lib.Dec.{ltb, leb, eqb}
 use lib.ListN.{length}
 use Rattle.word.specs.Bit.{bit}
-use Rattle.sheet.specs.Layout.{size, rowAt}
+use Rattle.graph.specs.Graph.{Cycle}
+use Rattle.sheet.specs.Layout.{size, rowAt, edgeAt}
 use Rattle.sheet.specs.Table.{_gives_, Conditions, Tests}
 
 -- 1: n is not 1 to 64
@@ -30,6 +31,17 @@ StrayBit n x = (j : ℕ) × (n ≤ j) × (bit x j ≡ 1)
 -- 4, in the rows: one has a bit at n or above
 abbrev pub StrayRow : ℕ → List ℕ → Type 0
 StrayRow n s = (i : ℕ) × (i < n) × StrayBit n (rowAt s i)
+
+-- of two vertices named
+abbrev pub vertexConditions : ℕ → ℕ → ℕ → Conditions
+vertexConditions n i j = (NoVertex n i ⊎ NoVertex n j) gives 3 ∷ []
+
+abbrev pub vertexTests : ℕ → ℕ → ℕ → Tests
+vertexTests n i j = (leb n i || leb n j) gives 3 ∷ []
+
+-- of the rows in a recount
+abbrev pub rowConditions : ℕ → List ℕ → Conditions
+rowConditions n s = StrayRow n s gives 4 ∷ Cycle n (edgeAt s) gives 8 ∷ []
 
 -- what every call looks for first, and then the conditions l
 abbrev pub sized : ℕ → List ℕ → Conditions → Conditions

@@ -10,10 +10,11 @@ use lib.ListN.{length, getD, set}
 use Rattle.sums.specs.Sum.{sum, delta}
 use Rattle.word.specs.Bit.{bit, hasBit, withoutBit, bitCount}
 use Rattle.graph.specs.Graph.{Cycle}
+use Rattle.graph.specs.Count.{pathCount}
 use Rattle.graph.specs.Order.{Order}
 use Rattle.sheet.specs.declared.order.Peeling.{Peeling}
 use Rattle.sheet.specs.Table.{_gives_, firstTrue}
-use Rattle.sheet.specs.Layout.{size, rowAt, countAt, edgeAt}
+use Rattle.sheet.specs.Layout.{size, rowAt, countAt, edgeAt, redone}
 
 -- ---- the shape of a sheet
 
@@ -79,6 +80,10 @@ pub record RowFilled (n : ℕ) (s : List ℕ) (v : ℕ) (t : List ℕ) : Type 0 
   pub long : length t ≡ length s
   pub filled : (j : ℕ) → j < n → countAt n t v j ≡ successorsSum n s v j
   pub kept : (k : ℕ) → (k < n + v * n) ⊎ (n + v * n + n ≤ k) → getD t k 0 ≡ getD s k 0
+
+-- s with each count worked out from its rows, modulo 2 ^ 64
+abbrev pub counted : ℕ → List ℕ → List ℕ
+counted n s = redone n (rowAt s) (λ i j. pathCount n (edgeAt s) i j % 2 ^ 64) s
 
 -- ---- the order in which vertices are taken away
 

@@ -1,13 +1,10 @@
 // Sheets of path counts: the adjacency rows of an acyclic graph and the number of paths between every two vertices, in the
 // words of a lent slice. The calls of this file answer every n, every length and all words.
 ghost use mathlib.Core.Path.{_≡_};
-ghost use Prim.Native.Nat.{ℕ, _<_, _%_, _^_};
-ghost use Rattle.graph.specs.Count.{pathCount};
 ghost use Rattle.sheet.specs.Table.{Reflects};
-ghost use Rattle.sheet.specs.Layout.{rowAt, edgeAt, redone};
 ghost use Rattle.sheet.specs.Valid.{Valid};
 ghost use Rattle.sheet.specs.Calls.{emptyAnswer, emptyAfter, pathCountAnswer, Recount, Validate};
-ghost use Rattle.sheet.specs.Internal.{Shape, RowsBelow, Peeled};
+ghost use Rattle.sheet.specs.Internal.{Shape, counted, RowsBelow, Peeled};
 
 mod answer;
 mod checks;
@@ -55,7 +52,7 @@ pub fn path_count(n: usize, sheet: &[u64], i: usize, j: usize) -> Answer
 // The counts, in the order of p: each row from those of its successors, which are earlier.
 fn fill_counts(n: usize, sheet: &mut [u64], p: Peeling)
     requires { ⌜ (Shape n (now sheet)) × (RowsBelow n (now sheet)) × (Peeled n (now sheet) p) × (p .left ≡ 0) ⌝ }
-    ensures { λ r. ⌜ now (sheet .exit) ≡ redone n (rowAt (now (sheet .entry))) (λ (i j : ℕ). pathCount n (edgeAt (now (sheet .entry))) i j % 2 ^ 64) (now (sheet .entry)) ⌝ }
+    ensures { λ r. ⌜ now (sheet .exit) ≡ counted n (now (sheet .entry)) ⌝ }
 {
     let order = p.order;
     let mut k = 0;

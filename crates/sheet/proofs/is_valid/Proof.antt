@@ -1,7 +1,7 @@
--- `sheet::is_valid` meets its contract: each way out is a law of RecountLaws. Assumes nothing.
+-- `sheet::is_valid` meets its contract: each way out is a law of ValidateLaws. Assumes nothing.
 use borrow.Author.Needs.{needs}
-use Rattle.sheet.proofs.RowsLaws.{rows-below}
-use Rattle.sheet.proofs.RecountLaws.{valid-stray, valid-cycle, valid-holds}
+use Rattle.sheet.proofs.StrayLaws.{rows-below}
+use Rattle.sheet.proofs.ValidateLaws.{valid-stray, valid-cycle, valid-holds}
 use Rattle.sheet.proofs.is_valid.Statement.{statement}
 use Rattle.sheet.proofs.is_valid.Tie as tie
 

@@ -1,8 +1,8 @@
--- `sheet::recount` meets its contract: each way out is a law of CallLaws. Assumes nothing.
+-- `sheet::recount` meets its contract: each way out is a law of RecountLaws. Assumes nothing.
 use borrow.Author.Needs.{needs}
 use Rattle.sheet.proofs.ShapeLaws.{shape-of}
-use Rattle.sheet.proofs.RowsLaws.{rows-below}
-use Rattle.sheet.proofs.CallLaws.{recount-refused, recount-stray, recount-cycle, recount-accepted, recount-shape}
+use Rattle.sheet.proofs.StrayLaws.{rows-below}
+use Rattle.sheet.proofs.RecountLaws.{recount-refused, recount-stray, recount-cycle, recount-accepted, recount-shape}
 use Rattle.sheet.proofs.recount.Statement.{statement}
 use Rattle.sheet.proofs.recount.Tie as tie
 

@@ -1,7 +1,7 @@
--- `sheet::validate` meets its contract: each way out is a law of AnswerLaws. Assumes nothing.
+-- `sheet::validate` meets its contract: each way out is a law of ValidateLaws. Assumes nothing.
 use borrow.Author.Needs.{needs}
 use Rattle.sheet.proofs.ShapeLaws.{shape-of}
-use Rattle.sheet.proofs.CallLaws.{validate-refused, validate-valid, validate-not}
+use Rattle.sheet.proofs.ValidateLaws.{validate-refused, validate-valid, validate-not}
 use Rattle.sheet.proofs.validate.Statement.{statement}
 use Rattle.sheet.proofs.validate.Tie as tie
 

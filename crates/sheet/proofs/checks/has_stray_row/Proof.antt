@@ -4,7 +4,7 @@ use native.Mathlib.Omega.{arith}
 use borrow.Author.Needs.{needs}
 use borrow.Author.Tests.{not-true, not-false}
 use Rattle.sheet.specs.Layout.{rowAt}
-use Rattle.sheet.proofs.RowsLaws.{stray-found, stray-more, stray-none}
+use Rattle.sheet.proofs.StrayLaws.{stray-found, stray-more, stray-none}
 use Rattle.sheet.proofs.checks.has_stray_row.Statement.{statement}
 use Rattle.sheet.proofs.checks.has_stray_row.Tie as tie
 
