@@ -12,3 +12,4 @@ pub mod RecountLaws
 pub mod ValidateLaws
 pub mod Refusals
 pub mod Meaning
+pub mod Examples

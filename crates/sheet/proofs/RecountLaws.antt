@@ -21,7 +21,7 @@ use Rattle.sheet.specs.declared.order.Peeling.{Peeling}
 use Rattle.sheet.specs.Table.{Reflects, First}
 use Rattle.sheet.specs.Conditions.{StrayRow, rowConditions}
 use Rattle.sheet.specs.Layout.{rowAt, countAt, edgeAt, setBits}
-use Rattle.sheet.specs.Internal.{Shape, successorsSum, RowFilled, RowsBelow, vertexAt, Peeled, PeeledOut, shapeNumber, counted}
+use Rattle.sheet.specs.Internal.{Shape, successorsSum, RowFilled, RowsBelow, vertexAt, Ordered, OrderFound, shapeNumber, counted}
 use Rattle.sheet.proofs.TableLaws.{reflects-false}
 use Rattle.sheet.proofs.ValidLaws.{paths-exactly, paths-fit}
 use Rattle.sheet.proofs.LayoutLaws.{row-within, place-apart, redone-ext, length-redone, row-redone, count-redone, rest-redone}
@@ -30,7 +30,7 @@ use Rattle.sheet.specs.Answers.{answer}
 use Rattle.sheet.specs.Calls.{recountConditions, Recounted, Recount}
 use Rattle.sheet.proofs.ShapeLaws.{shape-of, shape-refused, shape-passed}
 use Rattle.sheet.proofs.AnswerLaws.{decided-old}
-use Rattle.sheet.proofs.OrderLaws.{peeled-all, peeled-entry, peeled-acyclic}
+use Rattle.sheet.proofs.OrderLaws.{ordered-acyclic}
 use Rattle.sheet.proofs.RowLaws.{setBits-cong}
 
 -- ---- the counts filled so far
@@ -41,70 +41,70 @@ pub record Filled (n : ℕ) (s : List ℕ) (v : ℕ → ℕ) (k : ℕ) (t : List
   pub done : (m : ℕ) → m < k → (j : ℕ) → j < n → countAt n t (v m) j ≡ pathCount n (edgeAt s) (v m) j % 2 ^ 64
   pub kept : (x : ℕ) → (x < n) ⊎ (n + n * n ≤ x) → getD t x 0 ≡ getD s x 0
 
-module _ (n : ℕ) (s : List ℕ) (p : Peeling) (h : Peeled n s p) (none : p .left ≡ 0) (shape : Shape n s) where
-  pub filled-start : Filled n s (vertexAt p) 0 s
+module _ (n : ℕ) (s l : List ℕ) (h : Ordered n s l) (shape : Shape n s) where
+  pub filled-start : Filled n s (vertexAt l) 0 s
   filled-start = record { long = refl; done = λ m q. absurd (omega arith); kept = λ x q. refl }
 
-  pub filled-vertex : (k : ℕ) → k < n → vertexAt p k < n
-  filled-vertex k q = h .order .vertex k (omega (arith, peeled-all n s p h none))
+  pub filled-vertex : (k : ℕ) → k < n → vertexAt l k < n
+  filled-vertex k q = h .order .vertex k q
 
   -- ---- one row more
 
-  module _ (t u : List ℕ) (k : ℕ) (hk : k < n) (f : Filled n s (vertexAt p) k t) (r : RowFilled n t (vertexAt p k) u) where
+  module _ (t u : List ℕ) (k : ℕ) (hk : k < n) (f : Filled n s (vertexAt l) k t) (r : RowFilled n t (vertexAt l k) u) where
     -- an edge leads to a vertex whose counts are worked out
     term : (j : ℕ) → j < n → (b : ℕ) → b < n
-        → Congruent (2 ^ 64) (edgeAt s (vertexAt p k) b * countAt n t b j) (edgeAt s (vertexAt p k) b * pathCount n (edgeAt s) b j)
+        → Congruent (2 ^ 64) (edgeAt s (vertexAt l k) b * countAt n t b j) (edgeAt s (vertexAt l k) b * pathCount n (edgeAt s) b j)
     term j hj b hb =
-        let i = vertexAt p k in
+        let i = vertexAt l k in
         elim (decLt 0 (edgeAt s i b)) [
           | yes e ↦
-              let o = h .order .earlier k (omega (arith, peeled-all n s p h none)) b hb e in
+              let o = h .order .earlier k hk b hb e in
               congruent-mul (2 ^ 64) (edgeAt s i b) (countAt n t b j) (pathCount n (edgeAt s) b j)
               (rw (← (o .2)) (ap (λ (x : ℕ). x % 2 ^ 64) (f .done (o .0) (o .1) j hj) ∙ mod-mod _ (2 ^ 64)))
           | no e ↦ let z : edgeAt s i b ≡ 0 = omega arith in rw z (simp zero-mul)
         ]
 
     -- so the recurrence gives its own
-    now-done : (j : ℕ) → j < n → countAt n u (vertexAt p k) j ≡ pathCount n (edgeAt s) (vertexAt p k) j % 2 ^ 64
+    now-done : (j : ℕ) → j < n → countAt n u (vertexAt l k) j ≡ pathCount n (edgeAt s) (vertexAt l k) j % 2 ^ 64
     unfolding successorsSum
     now-done j hj =
-        let i = vertexAt p k in
+        let i = vertexAt l k in
         r .filled j hj
         ∙ ap (λ (x : ℕ). (delta i j + sum n (λ b. bit x b * countAt n t b j)) % 2 ^ 64) (f .kept i (inl (filled-vertex k hk)))
         ∙ congruent-add (2 ^ 64) (delta i j) _ (delta i j) _ refl (congruent-sum (2 ^ 64) n _ _ (term j hj))
-        ∙ ap (λ (x : ℕ). x % 2 ^ 64) (sym (pathCount-recurrence n (edgeAt s) (peeled-acyclic n s p h none) i j (filled-vertex k hk) hj))
+        ∙ ap (λ (x : ℕ). x % 2 ^ 64) (sym (pathCount-recurrence n (edgeAt s) (ordered-acyclic n s l h) i j (filled-vertex k hk) hj))
 
-    filled-done : (m : ℕ) → m < k + 1 → (j : ℕ) → j < n → countAt n u (vertexAt p m) j ≡ pathCount n (edgeAt s) (vertexAt p m) j % 2 ^ 64
+    filled-done : (m : ℕ) → m < k + 1 → (j : ℕ) → j < n → countAt n u (vertexAt l m) j ≡ pathCount n (edgeAt s) (vertexAt l m) j % 2 ^ 64
     filled-done m q j hj =
-        elim (ℕ-discrete (vertexAt p m) (vertexAt p k)) [
+        elim (ℕ-discrete (vertexAt l m) (vertexAt l k)) [
           | yes e ↦ rw e (now-done j hj)
           | no d ↦ elim (ℕ-discrete m k) [
-            | yes e ↦ absurd (d (ap (vertexAt p) e))
+            | yes e ↦ absurd (d (ap (vertexAt l) e))
             | no z ↦ r .kept _ (place-apart n _ _ j d hj) ∙ f .done m (omega arith) j hj
           ]
         ]
 
     filled-kept : (x : ℕ) → (x < n) ⊎ (n + n * n ≤ x) → getD u x 0 ≡ getD s x 0
     filled-kept x q =
-        r .kept x (elim q [ inl l ↦ inl (omega arith) | inr l ↦ inr (omega (arith, row-within n (vertexAt p k) (filled-vertex k hk))) ]) ∙ f .kept x q
+        r .kept x (elim q [ inl o ↦ inl (omega arith) | inr o ↦ inr (omega (arith, row-within n (vertexAt l k) (filled-vertex k hk))) ]) ∙ f .kept x q
 
-    pub filled-more : Filled n s (vertexAt p) (k + 1) u
+    pub filled-more : Filled n s (vertexAt l) (k + 1) u
     filled-more = record { long = r .long ∙ f .long; done = filled-done; kept = filled-kept }
 
   -- ---- all rows
 
-  pub filled-all : (t : List ℕ) (k : ℕ) → Filled n s (vertexAt p) k t → k ≡ n
+  pub filled-all : (t : List ℕ) (k : ℕ) → Filled n s (vertexAt l) k t → k ≡ n
       → t ≡ counted n s
   filled-all t k f e =
       redone-ext n (rowAt s) (λ i j. pathCount n (edgeAt s) i j % 2 ^ 64) s t (f .long) (λ i hi. f .kept i (inl hi))
-      (λ i j hi hj. let o = peeled-entry n s p h none i hi in rw (← (o .2)) (f .done (o .0) (omega (arith, o .1, peeled-all n s p h none)) j hj))
+      (λ i j hi hj. let o = h .all i hi in rw (← (o .2)) (f .done (o .0) (omega (arith, o .1)) j hj))
       (λ x q. f .kept x (inr q))
 
   -- the sheet keeps its shape and its rows meanwhile
-  pub filled-shape : (t : List ℕ) (k : ℕ) → Filled n s (vertexAt p) k t → Shape n t
+  pub filled-shape : (t : List ℕ) (k : ℕ) → Filled n s (vertexAt l) k t → Shape n t
   filled-shape t k f = record { low = shape .low; high = shape .high; long = f .long ∙ shape .long }
 
-  pub filled-below : (t : List ℕ) (k : ℕ) → Filled n s (vertexAt p) k t → RowsBelow n s → (i : ℕ) → i < n → rowAt t i < 2 ^ n
+  pub filled-below : (t : List ℕ) (k : ℕ) → Filled n s (vertexAt l) k t → RowsBelow n s → (i : ℕ) → i < n → rowAt t i < 2 ^ n
   filled-below t k f rows i hi = rw (f .kept i (inl hi)) (rows i hi)
 
 -- ---- the ways out of `recount`
@@ -147,17 +147,16 @@ module _ (n : ℕ) (s : List ℕ) (k : ℕ) (ek : k ≡ shapeNumber n (length s)
     pub recount-stray : (r : Answer) → r ≡ answer 4 0 0 → stray ≡ true → Recount n s r s
     recount-stray r er e = stopped 4 r er (λ q. omega arith) (shape-passed n s (shape-of n s k ek z) (rowConditions n s) 4 (inl (es .holds e, refl)))
 
-    module _ (clean : stray ≡ false) (p : Peeling) (ep : PeeledOut n s p) where
-      pub recount-cycle : (r : Answer) → r ≡ answer 8 0 0 → (p .left ≡ 0 → ⊥) → Recount n s r s
-      recount-cycle r er d =
-          let c : Cycle n (edgeAt s) = elim (ep .all) [ inl q ↦ absurd (d q) | inr q ↦ q ] in
-          stopped 8 r er (λ q. omega arith) (shape-passed n s (shape-of n s k ek z) (rowConditions n s) 8 (inr (reflects-false es .0 clean, inl (c, refl))))
+    module _ (clean : stray ≡ false) (found : Bool) (l : List ℕ) (o : OrderFound n s found l) where
+      pub recount-cycle : (r : Answer) → r ≡ answer 8 0 0 → found ≡ false → Recount n s r s
+      recount-cycle r er e =
+          stopped 8 r er (λ q. omega arith) (shape-passed n s (shape-of n s k ek z) (rowConditions n s) 8 (inr (reflects-false es .0 clean, inl (o .cycle e, refl))))
 
-      pub recount-accepted : (r : Answer) (v : ℕ) (t : List ℕ) → r ≡ answer 0 0 v → v ≡ setBits n t → p .left ≡ 0
+      pub recount-accepted : (r : Answer) (v : ℕ) (t : List ℕ) → r ≡ answer 0 0 v → v ≡ setBits n t → found ≡ true
           → t ≡ counted n s → Recount n s r t
-      recount-accepted r v t er ev none e =
+      recount-accepted r v t er ev ef e =
           let shape = shape-of n s k ek z in
-          let acyclic = peeled-acyclic n s p (ep .peeled) none in
+          let acyclic = ordered-acyclic n s l (o .ordered ef) in
           rw er record {
             number = shape-passed n s shape (rowConditions n s) 0 (inr (reflects-false es .0 clean, inr (acyclic, refl)));
             place = refl;

@@ -9,14 +9,14 @@ use Rattle.sheet.specs.declared.order.Peeling.{Peeling}
 use Rattle.sheet.specs.Table.{Reflects}
 use Rattle.sheet.specs.Conditions.{StrayRow, sized}
 use Rattle.sheet.specs.Valid.{Valid}
-use Rattle.sheet.specs.Internal.{Shape, RowHolds, PeeledOut, shapeNumber}
+use Rattle.sheet.specs.Internal.{Shape, RowHolds, OrderFound, shapeNumber}
 use Rattle.sheet.proofs.TableLaws.{reflects-none, reflects-false, reflects-iff, first-only}
 use Rattle.sheet.proofs.ValidLaws.{valid-iff-holds, valid-shape}
 use Rattle.sheet.specs.declared.answer.Answer.{Answer}
 use Rattle.sheet.specs.Answers.{answer}
 use Rattle.sheet.specs.Calls.{Validate}
 use Rattle.sheet.proofs.ShapeLaws.{shape-of, shape-refused, shape-passed}
-use Rattle.sheet.proofs.OrderLaws.{peeled-acyclic}
+use Rattle.sheet.proofs.OrderLaws.{ordered-acyclic}
 
 -- ---- the ways out of `is_valid`
 
@@ -24,13 +24,13 @@ module _ (n : ℕ) (s : List ℕ) (shape : Shape n s) where
   pub valid-stray : (t : Bool) → Reflects t (StrayRow n s) → t ≡ true → Reflects false (Valid n s)
   valid-stray t r e = reflects-none (λ v. v .rows (r .holds e))
 
-  pub valid-cycle : (p : Peeling) → PeeledOut n s p → (p .left ≡ 0 → ⊥) → Reflects false (Valid n s)
-  valid-cycle p o d = elim (o .all) [ inl z ↦ absurd (d z) | inr c ↦ reflects-none (λ v. v .acyclic c) ]
+  pub valid-cycle : (found : Bool) (l : List ℕ) → OrderFound n s found l → found ≡ false → Reflects false (Valid n s)
+  valid-cycle found l o e = reflects-none (λ v. v .acyclic (o .cycle e))
 
-  pub valid-holds : (t : Bool) → Reflects t (StrayRow n s) → t ≡ false → (p : Peeling) → PeeledOut n s p → p .left ≡ 0
+  pub valid-holds : (t : Bool) → Reflects t (StrayRow n s) → t ≡ false → (found : Bool) (l : List ℕ) → OrderFound n s found l → found ≡ true
       → (b : Bool) → Reflects b ((i : ℕ) → i < n → RowHolds n s i) → Reflects b (Valid n s)
-  valid-holds t r e p o z b q =
-      let iff = valid-iff-holds n s shape (reflects-false r .0 e) (peeled-acyclic n s p (o .peeled) z) in
+  valid-holds t r e found l o z b q =
+      let iff = valid-iff-holds n s shape (reflects-false r .0 e) (ordered-acyclic n s l (o .ordered z)) in
       reflects-iff (iff .1) (iff .0) q
 
 -- ---- the ways out of `validate`

@@ -1,7 +1,7 @@
 -- What the internal functions ask and promise. No public call's contract cites these. Definitions only. Assumes nothing.
 use mathlib.Core.Path.{_≡_}
 use mathlib.Core.Logic.{_⊎_}
-use mathlib.Core.Bool.{not, cond, _||_}
+use mathlib.Core.Bool.{Bool, true, false, not, cond, _||_}
 use mathlib.Core.List.{List, [], _∷_}
 use Prim.Native.Nat.{ℕ, _+_, _*_, _%_, _^_, _≤_, _<_}
 use lib.Bits.{bitAnd}
@@ -91,38 +91,47 @@ counted n s = redone n (rowAt s) (λ i j. pathCount n (edgeAt s) i j % 2 ^ 64) s
 abbrev pub RowsBelow : ℕ → List ℕ → Type 0
 RowsBelow n s = (i : ℕ) → i < n → rowAt s i < 2 ^ n
 
--- the k-th vertex taken away, from 0
-abbrev pub vertexAt : Peeling → ℕ → ℕ
-vertexAt p k = getD (p .order) k 0
+-- the vertex at place k of an order
+abbrev pub vertexAt : List ℕ → ℕ → ℕ
+vertexAt l k = getD l k 0
 
--- p holds, in order, the vertices taken away from the graph of s, and those that are left: each edge from a vertex taken
--- away leads to one that was taken away before it
-pub record Peeled (n : ℕ) (s : List ℕ) (p : Peeling) : Type 0 where
-  pub long : length (p .order) ≡ 64
+-- l holds, in order, the vertices taken away from the graph of s, and p how many, and those that are left: each edge from a vertex
+-- taken away leads to one that was taken away before it
+pub record Peeled (n : ℕ) (s : List ℕ) (p : Peeling) (l : List ℕ) : Type 0 where
+  pub long : length l ≡ 64
   pub below : p .left < 2 ^ n
   pub total : bitCount (p .left) + p .count ≡ n
-  pub order : Order n (edgeAt s) (p .count) (vertexAt p)
-  pub taken : (i : ℕ) → i < n → bit (p .left) i ≡ 0 → (m : ℕ) × (m < p .count) × (vertexAt p m ≡ i)
+  pub order : Order n (edgeAt s) (p .count) (vertexAt l)
+  pub taken : (i : ℕ) → i < n → bit (p .left) i ≡ 0 → (m : ℕ) × (m < p .count) × (vertexAt l m ≡ i)
 
--- p with vertex i taken away
-unfoldable pub without : Peeling → ℕ → Peeling
-without p i = record { left = withoutBit (p .left) i; count = p .count + 1; order = set (p .order) (p .count) i }
+-- x, if vertex i is left and no edge leads by its row to what is left, else y
+unfoldable pub ifFree : {A : Type 0} → Peeling → ℕ → ℕ → A → A → A
+ifFree p i row x y = cond (hasBit (p .left) i) (cond (eqb (bitAnd row (p .left)) 0) x y) y
 
--- p once vertex i with its row has been looked at: without i, if i is left and no edge leads from it to what is left
-unfoldable pub lookedAt : Peeling → ℕ → ℕ → Peeling
-lookedAt p i row = cond (hasBit (p .left) i) (cond (eqb (bitAnd row (p .left)) 0) (without p i) p) p
+-- p and l once vertex i with its row has been looked at: i is taken away and entered, if it can be
+abbrev pub lookedAt : Peeling → ℕ → ℕ → Peeling
+lookedAt p i row = ifFree p i row (record { left = withoutBit (p .left) i; count = p .count + 1 }) p
+
+abbrev pub enteredAt : Peeling → List ℕ → ℕ → ℕ → List ℕ
+enteredAt p l i row = ifFree p i row (set l (p .count) i) l
 
 -- from vertex i no edge leads to a vertex that is left
 abbrev pub Free : List ℕ → ℕ → ℕ → Type 0
 Free s left i = bitAnd (rowAt s i) left ≡ 0
 
 -- the vertices from i to n - 1 have been looked at, and p has become q: where none was taken away, none of them can be
-pub record Looked (n : ℕ) (s : List ℕ) (p : Peeling) (i : ℕ) (q : Peeling) : Type 0 where
-  pub peeled : Peeled n s q
+pub record Looked (n : ℕ) (s : List ℕ) (p : Peeling) (i : ℕ) (q : Peeling) (l : List ℕ) : Type 0 where
+  pub peeled : Peeled n s q l
   pub fewer : q .left ≤ p .left
   pub stuck : q .left ≡ p .left → (k : ℕ) → i ≤ k → k < n → bit (p .left) k ≡ 1 → ¬ (Free s (p .left) k)
 
--- vertices are taken away until none is left, or there is a cycle
-pub record PeeledOut (n : ℕ) (s : List ℕ) (p : Peeling) : Type 0 where
-  pub peeled : Peeled n s p
-  pub all : (p .left ≡ 0) ⊎ Cycle n (edgeAt s)
+-- l holds every vertex, each after those to which its edges lead
+pub record Ordered (n : ℕ) (s l : List ℕ) : Type 0 where
+  pub long : length l ≡ 64
+  pub order : Order n (edgeAt s) n (vertexAt l)
+  pub all : (i : ℕ) → i < n → (m : ℕ) × (m < n) × (vertexAt l m ≡ i)
+
+-- such an order was found, or there is a cycle
+pub record OrderFound (n : ℕ) (s : List ℕ) (found : Bool) (l : List ℕ) : Type 0 where
+  pub ordered : found ≡ true → Ordered n s l
+  pub cycle : found ≡ false → Cycle n (edgeAt s)

@@ -4,7 +4,7 @@ ghost use mathlib.Core.Path.{_≡_};
 ghost use Rattle.sheet.specs.Table.{Reflects};
 ghost use Rattle.sheet.specs.Valid.{Valid};
 ghost use Rattle.sheet.specs.Calls.{emptyAnswer, emptyAfter, pathCountAnswer, Recount, Validate};
-ghost use Rattle.sheet.specs.Internal.{Shape, counted, RowsBelow, Peeled};
+ghost use Rattle.sheet.specs.Internal.{Shape, counted, RowsBelow, Ordered};
 
 mod answer;
 mod checks;
@@ -16,7 +16,6 @@ mod rows;
 pub use answer::Answer;
 pub use answer::Refusal;
 pub use layout::Sheet;
-use order::Peeling;
 
 // The empty sheet of n vertices, whatever the words were. Refused by 1, 2. The value is 0.
 pub fn empty(n: usize, sheet: &mut [u64]) -> Answer
@@ -49,12 +48,11 @@ pub fn path_count(n: usize, sheet: &[u64], i: usize, j: usize) -> Answer
     Answer::accepted(sheet[k])
 }
 
-// The counts, in the order of p: each row from those of its successors, which are earlier.
-fn fill_counts(n: usize, sheet: &mut [u64], p: Peeling)
-    requires { ⌜ (Shape n (now sheet)) × (RowsBelow n (now sheet)) × (Peeled n (now sheet) p) × (p .left ≡ 0) ⌝ }
+// The counts, in the order given: each row from those of its successors, which are earlier.
+fn fill_counts(n: usize, sheet: &mut [u64], order: &[usize; 64])
+    requires { ⌜ (Shape n (now sheet)) × (RowsBelow n (now sheet)) × (Ordered n (now sheet) (now order)) ⌝ }
     ensures { λ r. ⌜ now (sheet .exit) ≡ counted n (now (sheet .entry)) ⌝ }
 {
-    let order = p.order;
     let mut k = 0;
     while k < n {
         rows::fill_row(n, sheet, order[k]);
@@ -74,11 +72,11 @@ pub fn recount(n: usize, sheet: &mut [u64]) -> Answer
     if checks::has_stray_row(n, sheet) {
         return Answer::refused(Refusal::STRAY_BIT);
     }
-    let p = order::peel(n, sheet);
-    if p.left != 0 {
+    let mut order = [0usize; 64];
+    if !order::find_order(n, sheet, &mut order) {
         return Answer::refused(Refusal::CYCLE);
     }
-    fill_counts(n, sheet, p);
+    fill_counts(n, sheet, &order);
     Answer::accepted(rows::count_edges(n, sheet))
 }
 
@@ -91,8 +89,8 @@ pub fn is_valid(n: usize, sheet: &[u64]) -> bool
     if checks::has_stray_row(n, sheet) {
         return false;
     }
-    let peeling = order::peel(n, sheet);
-    if peeling.left != 0 {
+    let mut found = [0usize; 64];
+    if !order::find_order(n, sheet, &mut found) {
         return false;
     }
     rows::rows_hold(n, sheet)

@@ -1,21 +1,22 @@
-// An order of the vertices in which every edge leads to an earlier one, or a cycle: vertices from which no edge leads to
-// what is left are taken away, until none can be.
-ghost use Prim.Native.Nat.{_≤_, _<_};
+// An order of the vertices in which every edge leads to an earlier one, or the finding that there is a cycle: vertices from
+// which no edge leads to what is left are taken away, until none can be.
+ghost use Prim.Native.Nat.{_<_};
 ghost use mathlib.Core.Path.{_≡_};
-ghost use Rattle.sheet.specs.Internal.{Shape, RowsBelow, Peeled, lookedAt, Looked, PeeledOut};
+ghost use lib.ListN.{length};
 ghost use Rattle.word.specs.Bit.{bit};
+ghost use Rattle.sheet.specs.Internal.{Shape, RowsBelow, Peeled, lookedAt, enteredAt, Looked, OrderFound};
 
-// The vertices left, as a mask, and those taken away, in order.
+// The vertices left, as a mask, and how many have been taken away.
 pub struct Peeling {
     pub left: u64,
     pub count: usize,
-    pub order: [usize; 64],
 }
 
 // Vertex i with its row is looked at: it is taken away if it is left and no edge leads from it to what is left.
-fn look_at(p: Peeling, i: usize, row: u64) -> Peeling
+fn look_at(p: Peeling, order: &mut [usize; 64], i: usize, row: u64) -> Peeling
     requires { ⌜ (i < 64) × (bit (p .left) i ≡ 1 → p .count < 64) ⌝ }
-    ensures { λ r. ⌜ r ≡ lookedAt p i row ⌝ }
+    ensures state { λ r. ⌜ r ≡ lookedAt p i row ⌝ }
+    ensures order { λ r. ⌜ now (order .exit) ≡ enteredAt p (now (order .entry)) i row ⌝ }
 {
     let left = p.left;
     if !word::test_bit(left, i) {
@@ -25,43 +26,42 @@ fn look_at(p: Peeling, i: usize, row: u64) -> Peeling
         return p;
     }
     let at = p.count;
-    let mut next = p;
-    next.order[at] = i;
-    next.left = word::clear_bit(left, i);
-    next.count = at + 1;
-    next
+    order[at] = i;
+    Peeling {
+        left: word::clear_bit(left, i),
+        count: at + 1,
+    }
 }
 
 // Every vertex is looked at once, from the highest down.
-fn look_round(n: usize, sheet: &[u64], p: Peeling) -> Peeling
-    requires { ⌜ Shape n (now sheet) × (RowsBelow n (now sheet)) × (Peeled n (now sheet) p) ⌝ }
-    ensures { λ r. ⌜ Looked n (now (sheet .entry)) p 0 r ⌝ }
+fn look_round(n: usize, sheet: &[u64], p: Peeling, order: &mut [usize; 64]) -> Peeling
+    requires { ⌜ (Shape n (now sheet)) × (RowsBelow n (now sheet)) × (Peeled n (now sheet) p (now order)) ⌝ }
+    ensures { λ r. ⌜ Looked n (now (sheet .entry)) p 0 r (now (order .exit)) ⌝ }
 {
     let mut q = p;
     let mut i = n;
     while 0 < i {
         i -= 1;
-        q = look_at(q, i, sheet[i]);
+        q = look_at(q, order, i, sheet[i]);
     }
     q
 }
 
-// Internal: vertices are taken away as long as one can be.
-pub fn peel(n: usize, sheet: &[u64]) -> Peeling
-    requires { ⌜ Shape n (now sheet) × (RowsBelow n (now sheet)) ⌝ }
-    ensures { λ r. ⌜ PeeledOut n (now (sheet .entry)) r ⌝ }
+// Internal: whether there is no cycle; then order holds every vertex, after those to which its edges lead.
+pub fn find_order(n: usize, sheet: &[u64], order: &mut [usize; 64]) -> bool
+    requires { ⌜ (Shape n (now sheet)) × (RowsBelow n (now sheet)) × (length (now order) ≡ 64) ⌝ }
+    ensures { λ r. ⌜ OrderFound n (now (sheet .entry)) r (now (order .exit)) ⌝ }
 {
     let mut p = Peeling {
         left: word::low_bits(n),
         count: 0,
-        order: [0usize; 64],
     };
     while p.left != 0 {
         let before = p.left;
-        p = look_round(n, sheet, p);
+        p = look_round(n, sheet, p, order);
         if p.left == before {
-            return p;
+            return false;
         }
     }
-    p
+    true
 }

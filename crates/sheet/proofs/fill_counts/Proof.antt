@@ -1,33 +1,33 @@
 -- `sheet::fill_counts` meets its contract: after k turns the counts from the first k vertices of the order are worked out.
 -- Assumes nothing.
-use Prim.Native.Nat.{ℕ, _-_, _≤_}
+use Prim.Native.Nat.{_-_, _≤_}
 use native.Mathlib.Omega.{arith}
-use lib.ListN.{getD}
+use Rattle.sheet.specs.Internal.{vertexAt}
 use Rattle.sheet.proofs.RecountLaws.{Filled, filled-start, filled-vertex, filled-more, filled-all, filled-shape, filled-below}
 use Rattle.sheet.proofs.fill_counts.Statement.{statement}
 use Rattle.sheet.proofs.fill_counts.Tie as tie
 
 abbrev Inv-loop : tie.InvT-loop
-Inv-loop n sheet₀ order k₀ sheet k = (k ≤ n) × (Filled n sheet₀ (λ (m : ℕ). getD order m 0) k sheet)
+Inv-loop n sheet₀ order k₀ sheet k = (k ≤ n) × (Filled n sheet₀ (vertexAt order) k sheet)
 
 abbrev μ-loop : tie.MeasureT-loop
 μ-loop n sheet₀ order k₀ sheet k = n - k
 
 loop-holds : tie.Need-loop-holds Inv-loop μ-loop
-loop-holds c = let a = c .before .before in (omega arith, filled-start _ _ (a .args .p) (a .pre .2) (a .pre .3) (a .pre .0))
+loop-holds c = let a = c .before in (omega arith, filled-start _ _ _ (a .pre .2) (a .pre .0))
 
 mul-fill-row : tie.Need-mul-fill-row Inv-loop μ-loop
 mul-fill-row c = omega arith
 
-array-read-fill-row : tie.Need-array-read-fill-row Inv-loop μ-loop
-array-read-fill-row c = omega arith
+element-copy-out-fill-row : tie.Need-element-copy-out-fill-row Inv-loop μ-loop
+element-copy-out-fill-row c = omega arith
 
 fill-row-requires : tie.Need-fill-row-requires Inv-loop μ-loop
 fill-row-requires c κs =
     let a = c .before .before .before .before .before in
-    let f = c .before .before .loop .inv .1 in
-    let v = filled-vertex _ _ (a .args .p) (a .pre .2) (a .pre .3) (a .pre .0) (c .before .before .loop .k) (omega arith) in
-    (filled-shape _ _ (a .args .p) (a .pre .2) (a .pre .3) (a .pre .0) _ _ f, v, filled-below _ _ (a .args .p) (a .pre .2) (a .pre .3) (a .pre .0) _ _ f (a .pre .1) _ v)
+    let l = c .before .before .before .loop in
+    let v = filled-vertex _ _ _ (a .pre .2) (a .pre .0) (l .k) (omega arith) in
+    (filled-shape _ _ _ (a .pre .2) (a .pre .0) _ _ (l .inv .1), v, filled-below _ _ _ (a .pre .2) (a .pre .0) _ _ (l .inv .1) (a .pre .1) _ v)
 
 add-k : tie.Need-add-k Inv-loop μ-loop
 add-k c = omega arith
@@ -38,16 +38,14 @@ loop-less c = omega arith
 loop-again : tie.Need-loop-again Inv-loop μ-loop
 loop-again c =
     let a = c .before .before .before .before .before .before .before .before in
-    let l = c .before .before .before .before .before .loop in
-    (omega arith, filled-more _ _ (a .args .p) (a .pre .2) (a .pre .3) (a .pre .0) _ _ _ (omega arith) (l .inv .1) (c .before .before .fill-row .ensures))
+    let l = c .before .before .before .before .before .before .loop in
+    (omega arith, filled-more _ _ _ (a .pre .2) (a .pre .0) _ _ _ (omega arith) (l .inv .1) (c .before .before .fill-row .ensures))
 
 same-length : tie.Need-same-length Inv-loop μ-loop
 same-length c = c .before .loop .inv .1 .long
 
 returns : tie.Need-returns Inv-loop μ-loop
-returns c =
-    let a = c .before .before .before .before in
-    filled-all _ _ (a .args .p) (a .pre .2) (a .pre .3) (a .pre .0) _ _ (c .before .loop .inv .1) (omega arith)
+returns c = let a = c .before .before .before in filled-all _ _ _ (a .pre .2) (a .pre .0) _ _ (c .before .loop .inv .1) (omega arith)
 
 pub fill-counts-spec : {M : Type 1} → statement M
 fill-counts-spec =
@@ -57,7 +55,7 @@ fill-counts-spec =
     μ-loop
     loop-holds
     mul-fill-row
-    array-read-fill-row
+    element-copy-out-fill-row
     fill-row-requires
     add-k
     loop-less

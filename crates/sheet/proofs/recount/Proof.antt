@@ -1,5 +1,6 @@
 -- `sheet::recount` meets its contract: each way out is a law of RecountLaws. Assumes nothing.
 use borrow.Author.Needs.{needs}
+use borrow.Author.Tests.{not-true, not-false}
 use Rattle.sheet.proofs.ShapeLaws.{shape-of}
 use Rattle.sheet.proofs.StrayLaws.{rows-below}
 use Rattle.sheet.proofs.RecountLaws.{recount-refused, recount-stray, recount-cycle, recount-accepted, recount-shape}
@@ -27,8 +28,8 @@ same-length c = search needs
 returns-2 : tie.Need-returns-2
 returns-2 c = search recount-stray
 
-peel-requires : tie.Need-peel-requires
-peel-requires c κs = search (shape-of, rows-below)
+find-order-requires : tie.Need-find-order-requires
+find-order-requires c κs = search (shape-of, rows-below)
 
 refused-requires-3 : tie.Need-refused-requires-3
 refused-requires-3 c κs = search needs
@@ -37,10 +38,10 @@ same-length-2 : tie.Need-same-length-2
 same-length-2 c = search needs
 
 returns-3 : tie.Need-returns-3
-returns-3 c = search recount-cycle
+returns-3 c = search (recount-cycle, not-true)
 
 fill-counts-requires : tie.Need-fill-counts-requires
-fill-counts-requires c κs = search (shape-of, rows-below)
+fill-counts-requires c κs = (search shape-of, search rows-below, c .before .before .before .find-order .ensures .ordered (not-false _ (c .before .before .if3 .left)))
 
 count-edges-requires : tie.Need-count-edges-requires
 count-edges-requires c κs = search recount-shape
@@ -52,7 +53,7 @@ same-length-3 : tie.Need-same-length-3
 same-length-3 c = search needs
 
 returns-4 : tie.Need-returns-4
-returns-4 c = search recount-accepted
+returns-4 c = search (recount-accepted, not-false)
 
 pub recount-spec : {M : Type 1} → statement M
 recount-spec =
@@ -65,7 +66,7 @@ recount-spec =
     refused-requires-2
     same-length
     returns-2
-    peel-requires
+    find-order-requires
     refused-requires-3
     same-length-2
     returns-3

@@ -3,7 +3,7 @@ use Prim.Native.Nat.{_<_}
 use native.Mathlib.Omega.{arith}
 use borrow.Author.Needs.{needs}
 use borrow.Author.Tests.{not-true, not-false}
-use Rattle.sheet.proofs.OrderLaws.{look-gone, look-held, look-free, look-room}
+use Rattle.sheet.proofs.OrderLaws.{look-gone, look-held, look-free, look-taken, look-room}
 use Rattle.sheet.proofs.order.look_at.Statement.{statement}
 use Rattle.sheet.proofs.order.look_at.Tie as tie
 
@@ -19,20 +19,20 @@ returns-2 c = search (look-held, not-false)
 room : (c : tie.Else2) → c .before .before .before .args .p .count < 64
 room c = search (look-room, not-false)
 
-mul-next : tie.Need-mul-next
-mul-next c = omega (arith, room c)
+mul-order : tie.Need-mul-order
+mul-order c = omega (arith, room c)
 
-element-write-next : tie.Need-element-write-next
-element-write-next c = room c
+element-write-order : tie.Need-element-write-order
+element-write-order c = room c
 
 clear-bit-requires : tie.Need-clear-bit-requires
 clear-bit-requires c κs = search needs
 
-add-next : tie.Need-add-next
-add-next c = omega (arith, room (c .before))
+add-t10 : tie.Need-add-t10
+add-t10 c = omega (arith, room (c .before))
 
 returns-3 : tie.Need-returns-3
-returns-3 c = search (look-free, not-false)
+returns-3 c = search (look-taken, look-free, not-false)
 
 pub look-at-spec : {M : Type 1} → statement M
 look-at-spec =
@@ -41,8 +41,8 @@ look-at-spec =
     test-bit-requires
     returns
     returns-2
-    mul-next
-    element-write-next
+    mul-order
+    element-write-order
     clear-bit-requires
-    add-next
+    add-t10
     returns-3)

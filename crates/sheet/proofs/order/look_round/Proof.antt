@@ -8,13 +8,13 @@ use Rattle.sheet.proofs.order.look_round.Statement.{statement}
 use Rattle.sheet.proofs.order.look_round.Tie as tie
 
 abbrev Inv-loop : tie.InvT-loop
-Inv-loop n sheet q₀ i₀ q i = (i ≤ n) × (Looked n sheet q₀ i q)
+Inv-loop n sheet order₀ q₀ i₀ order q i = (i ≤ n) × (Looked n sheet q₀ i q order)
 
 abbrev μ-loop : tie.MeasureT-loop
-μ-loop n sheet q₀ i₀ q i = i
+μ-loop n sheet order₀ q₀ i₀ order q i = i
 
 loop-holds : tie.Need-loop-holds Inv-loop μ-loop
-loop-holds c = let a = c .before in (omega arith, looked-start _ _ (a .pre .0 .high) (a .pre .1) _ (a .pre .2))
+loop-holds c = let a = c .before in (omega arith, looked-start _ _ (a .pre .0 .high) (a .pre .1) _ _ (a .pre .2))
 
 sub-i : tie.Need-sub-i Inv-loop μ-loop
 sub-i c = omega arith
@@ -27,16 +27,17 @@ shared-slice-read-look-at c = omega arith
 
 look-at-requires : tie.Need-look-at-requires Inv-loop μ-loop
 look-at-requires c κs =
-    let a = c .before .before .before .before in
-    (omega arith, looked-room _ _ (a .pre .0 .high) (a .pre .1) _ _ _ _ (c .before .before .loop .inv .1) (omega arith))
+    let a = c .before .before .before .before .before in
+    (omega arith, looked-room _ _ (a .pre .0 .high) (a .pre .1) _ _ _ _ _ (c .before .before .before .loop .inv .1) (omega arith))
 
 loop-less : tie.Need-loop-less Inv-loop μ-loop
 loop-less c = omega arith
 
 loop-again : tie.Need-loop-again Inv-loop μ-loop
 loop-again c =
-    let a = c .before .before .before .before .before in
-    (omega arith, looked-turn _ _ (a .pre .0 .high) (a .pre .1) _ _ _ _ (c .before .before .before .loop .i) (omega arith) (omega arith) (c .before .before .before .loop .inv .1) (c .look-at .ensures))
+    let a = c .before .before .before .before .before .before in
+    let l = c .before .before .before .before .loop in
+    (omega arith, looked-turn _ _ (a .pre .0 .high) (a .pre .1) _ _ _ _ _ _ (l .i) (omega arith) (omega arith) (l .inv .1) (c .look-at .ensures .0) (c .look-at .ensures .1))
 
 returns : tie.Need-returns Inv-loop μ-loop
 returns c = let z : c .before .loop .i ≡ 0 = omega arith in rw z at (c .before .loop .inv .1)
