@@ -9,24 +9,28 @@ fn unchanged(kept: &[u64], words: &[u64]) {
     lines::end();
 }
 
+// The empty sheet.
 pub fn empty(n: usize, words: &mut [u64]) {
     let kept = buffer::keep(words);
     lines::answer(b"empty", sheet::empty(n, words));
     unchanged(&kept, words);
 }
 
+// The count from i to j.
 pub fn path_count(n: usize, words: &[u64], i: usize, j: usize) {
     lines::number(b"path_count ", i as u64);
     lines::number(b" ", j as u64);
     lines::answer(b"", sheet::path_count(n, words, i, j));
 }
 
+// The counts worked out afresh.
 pub fn recount(n: usize, words: &mut [u64]) {
     let kept = buffer::keep(words);
     lines::answer(b"recount", sheet::recount(n, words));
     unchanged(&kept, words);
 }
 
+// Whether the sheet is valid.
 pub fn validate(n: usize, words: &[u64]) {
     lines::answer(b"validate", sheet::validate(n, words));
 }

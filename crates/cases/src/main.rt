@@ -37,6 +37,7 @@ fn one_vertex() {
     calls::path_count(1, &words, 0, 0);
     calls::path_count(1, &words, 0, 1);
     calls::path_count(1, &words, 1, 0);
+    calls::path_count(1, &words, FAR_TOO_MANY, 0);
     calls::validate(1, &words);
     lines::words(&words);
 }
@@ -74,7 +75,7 @@ fn bad_rows(title: &[u8], n: usize, words: &mut [u64]) {
 }
 
 // Cycles: over garbage counts, over the counts of the empty sheet, and over counts that satisfy the recurrence of path counts
-// modulo 2 to the 64, though a cycle has no numbers of paths.
+// modulo 2 to the 64, though no sheet with a cycle is valid.
 fn cycles() {
     let rows = [0b010, 0b100, 0b001];
     let mut garbage = [GARBAGE; 12];

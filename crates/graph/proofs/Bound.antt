@@ -1,5 +1,5 @@
 -- Where there is no cycle, at most 2 ^ (n - 2) paths lead from one vertex to another: a path is known by which of the other vertices it comes to.
--- So with up to 64 vertices every count is below 2 ^ 64. Assumes nothing.
+-- So with up to 64 vertices, and at most one edge from a vertex to another, every count is below 2 ^ 64. Assumes nothing.
 use mathlib.Core.Path.{_≡_, refl, sym, ap, ap₂, _∙_}
 use mathlib.Core.Logic.{inl, inr}
 use mathlib.Core.List.{List, [], _∷_, _++_}
@@ -8,7 +8,7 @@ use native.Mathlib.Nat.{pow-suc, pow-le-pow-right}
 use native.Mathlib.Decide.{ℕ-discrete}
 use native.Mathlib.Omega.{arith}
 use lib.ListN.{length, length-append}
-use Rattle.graph.specs.Graph.{_isIn_, Distinct, Exactly, Walk, Path, Acyclic}
+use Rattle.graph.specs.Graph.{_isIn_, Distinct, Exactly, Walk, IsPath, Acyclic}
 use Rattle.graph.proofs.Lists.{in?, in-left, in-right, in-either, when, when-in, when-of, each, each-in, each-length, images-le, exactly-only}
 use Rattle.graph.proofs.Pigeon.{Others, others}
 use Rattle.graph.proofs.Walks.{walk-below, walk-end, Reach, reach-trans, walk-reach, cycle-of}
@@ -55,7 +55,7 @@ among-sublist (x ∷ s) l = put (in? x l) (among-sublist s l)
     put (no d) m = in-right (among s l) (each x (sublists s)) (sublists s) m
 
 -- from a vertex to itself there is one path, also where there is a cycle
-pub bound-self : (n : ℕ) (w : ℕ → ℕ → ℕ) (i k : ℕ) → i < n → Exactly (Path n w i i) k → k ≡ 1
+pub bound-self : (n : ℕ) (w : ℕ → ℕ → ℕ) (i k : ℕ) → i < n → Exactly (IsPath n w i i) k → k ≡ 1
 bound-self n w i k h r = exactly-only r (exactly-self n w i h)
 
 module _ (n : ℕ) (w : ℕ → ℕ → ℕ) (acyclic : Acyclic n w) where
@@ -97,7 +97,7 @@ module _ (n : ℕ) (w : ℕ → ℕ → ℕ) (acyclic : Acyclic n w) where
         later (inl t) = absurd (d .0 (rw t at r))
         later (inr t) = t
 
-    path-only : (x y : List ℕ) → Path n w i j x → Path n w i j y → among (o .list) x ≡ among (o .list) y → x ≡ y
+    path-only : (x y : List ℕ) → IsPath n w i j x → IsPath n w i j y → among (o .list) x ≡ among (o .list) y → x ≡ y
     path-only [] y p q e = absurd p
     path-only (a ∷ l) [] p q e = absurd q
     path-only (a ∷ l) (c ∷ m) (s, _, p, d) (t, _, q, f) e =
@@ -108,7 +108,7 @@ module _ (n : ℕ) (w : ℕ → ℕ → ℕ) (acyclic : Acyclic n w) where
         (walk-only i l m j p′ q′ (d .1) (f .1) (path-within l m p′ q′ (rw s at d) e′) (path-within m l q′ p′ (rw t at f) (sym e′)))
 
   -- THE BOUND: the sets of other vertices that a path can come to number 2 ^ (n - 2), and no two paths come to the same ones
-  pub bound : (i j k : ℕ) → i < n → j < n → (i ≡ j → ⊥) → Exactly (Path n w i j) k → k ≤ 2 ^ (n - 2)
+  pub bound : (i j k : ℕ) → i < n → j < n → (i ≡ j → ⊥) → Exactly (IsPath n w i j) k → k ≤ 2 ^ (n - 2)
   bound i j k hi hj d r =
       let o = others n i j hi hj d in
       let e : length (o .list) ≡ n - 2 = omega (arith, o .many) in
@@ -121,9 +121,9 @@ module _ (n : ℕ) (w : ℕ → ℕ → ℕ) (acyclic : Acyclic n w) where
             (λ x y p q s. path-only i j o x y (r .only x p) (r .only y q) s),
       )
 
-  -- with up to 64 vertices a count is 1 or at most 2 ^ 62
-  pub count-below : n ≤ 64 → (i j k : ℕ) → i < n → j < n → Exactly (Path n w i j) k → k < 2 ^ 64
-  count-below hn i j k hi hj r =
+  -- with up to 64 vertices there are fewer than 2 ^ 64 paths: 1, or at most 2 ^ 62
+  pub paths-below : n ≤ 64 → (i j k : ℕ) → i < n → j < n → Exactly (IsPath n w i j) k → k < 2 ^ 64
+  paths-below hn i j k hi hj r =
       elim (ℕ-discrete i j) [
         | yes e ↦ omega (arith, bound-self n w i k hi (rw (← e) at r))
         | no d ↦ let h : n - 2 ≤ 62 = omega arith in omega (arith, bound i j k hi hj d r, pow-le-pow-right {n = 2} (omega arith) h)

@@ -10,7 +10,7 @@ use native.Mathlib.Omega.{arith}
 use lib.ListN.{length, length-append}
 use Rattle.sums.specs.Sum.{delta}
 use Rattle.sums.proofs.SumLaws.{delta-refl, delta-diff, sum-cong}
-use Rattle.graph.specs.Graph.{_isIn_, Distinct, Exactly, Edge, Walk, Path, Acyclic}
+use Rattle.graph.specs.Graph.{_isIn_, Distinct, Exactly, Edge, Walk, IsPath, Acyclic}
 use Rattle.graph.specs.Count.{walks, pathCount}
 use Rattle.graph.proofs.Lists.{in-left, in-right, in-either, append-distinct, gather, gather-in, gather-of, gather-distinct, gather-length}
 use Rattle.graph.proofs.Lists.{when, when-in, when-of, when-distinct, each, each-in, each-of, each-distinct, each-length}
@@ -117,26 +117,26 @@ module _ (n : ℕ) (w : ℕ → ℕ → ℕ) where
   -- ---- where there is no cycle, the walks are the paths
 
   -- a walk that came to a vertex twice would close a cycle
-  walk-path : Acyclic n w → (i : ℕ) (l : List ℕ) (j : ℕ) → i < n → Walk n w i l j → Path n w i j (i ∷ l)
+  walk-path : Acyclic n w → (i : ℕ) (l : List ℕ) (j : ℕ) → i < n → Walk n w i l j → IsPath n w i j (i ∷ l)
   walk-path a i l j h p = (refl, h, p, distinct i l h p)
     where
       distinct : (i : ℕ) (l : List ℕ) → i < n → Walk n w i l j → Distinct (i ∷ l)
       distinct i [] h p = ((λ m. m), tt)
       distinct i (b ∷ l) h p = (λ m. a (cycle-of n w i b h (p .0) (p .1) (walk-reach n w b l j i (p .2) m)), distinct b l (p .0) (p .2))
 
-  path-in : Acyclic n w → (i j : ℕ) (x : List ℕ) → Path n w i j x → x isIn walkList n i j
+  path-in : Acyclic n w → (i j : ℕ) (x : List ℕ) → IsPath n w i j x → x isIn walkList n i j
   path-in a i j [] p = absurd p
   path-in a i j (s ∷ l) p = rw (← p .0) (walkList-in n s l j (deep n w a s (p .1)) (p .2))
 
   -- one can come from i to j exactly if the count is above 0
-  pub path-iff-count : Acyclic n w → (i j : ℕ) → i < n → j < n → ((l : List ℕ) × Path n w i j l) ↔ (0 < pathCount n w i j)
+  pub path-iff-count : Acyclic n w → (i j : ℕ) → i < n → j < n → ((l : List ℕ) × IsPath n w i j l) ↔ (0 < pathCount n w i j)
   path-iff-count a i j hi hj = (
     λ p. pathCount-reach n w a i j hi hj (path-reach n w i j (p .0) (p .1)),
     λ h. let r = reach-pathCount n w i j h in (i ∷ r .0, walk-path a i (r .0) j hi (r .1)),
   )
 
   -- from a vertex to itself there is one path
-  pub exactly-self : (i : ℕ) → i < n → Exactly (Path n w i i) 1
+  pub exactly-self : (i : ℕ) → i < n → Exactly (IsPath n w i i) 1
   exactly-self i h = record {
     list = (i ∷ []) ∷ [];
     once = ((λ m. m), tt);
@@ -146,9 +146,9 @@ module _ (n : ℕ) (w : ℕ → ℕ → ℕ) where
   }
 
   -- COUNTING: there are exactly `pathCount i j` paths from i to j
-  pub exactly : Acyclic n w → ((i j : ℕ) → i < n → j < n → w i j ≤ 1) → (i j : ℕ) → i < n → Exactly (Path n w i j) (pathCount n w i j)
+  pub pathCount-exact : Acyclic n w → ((i j : ℕ) → i < n → j < n → w i j ≤ 1) → (i j : ℕ) → i < n → Exactly (IsPath n w i j) (pathCount n w i j)
   unfolding pathCount
-  exactly a one i j h = record {
+  pathCount-exact a one i j h = record {
     list = walkList n i j;
     once = walkList-distinct n i j;
     all = path-in a i j;

@@ -29,10 +29,6 @@ module _ (n : ℕ) (w : ℕ → ℕ → ℕ) where
   Deep zero i = ⊥
   Deep (suc k) i = (b : ℕ) → b < n → Edge n w i b → Deep k b
 
-  pub deep-more : (k i : ℕ) → Deep k i → Deep (suc k) i
-  deep-more zero i d = absurd d
-  deep-more (suc k) i d = λ b hb p. deep-more k b (d b hb p)
-
   -- on a cycle one can go on for ever: an edge leads from i to b, and b too is on the cycle
   no-deep : (k i b : ℕ) (l : List ℕ) → b < n → Edge n w i b → Walk n w b l i → Deep k i → ⊥
   no-deep zero i b l h p q d = d

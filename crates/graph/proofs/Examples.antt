@@ -5,10 +5,10 @@ use Prim.Native.Nat.{ℕ, zero, suc, _-_, _^_, _≤_, _<_, zero-le}
 use native.Mathlib.Omega.{arith}
 use lib.ListN.{getD}
 use Rattle.sums.specs.Sum.{sum, delta}
-use Rattle.graph.specs.Graph.{Exactly, Path, Cycle, Acyclic}
+use Rattle.graph.specs.Graph.{Exactly, IsPath, Cycle, Acyclic}
 use Rattle.graph.specs.Count.{walks, pathCount}
 use Rattle.graph.proofs.Peeling.{order-acyclic}
-use Rattle.graph.proofs.Counting.{exactly}
+use Rattle.graph.proofs.Counting.{pathCount-exact}
 
 -- ---- from 0 to 1 and 2, and from each of these to 3
 
@@ -75,5 +75,5 @@ unfolding complete pathCount walks sum delta
 complete-count = refl
 
 -- it has as many paths as `bound` of proofs/Bound.antt allows
-complete-exactly : Exactly (Path 5 complete 0 4) (2 ^ (5 - 2))
-complete-exactly = rw complete-count at (exactly 5 complete (complete-acyclic 5) (λ i j hi hj. complete-le i j) 0 4 (omega arith))
+complete-exactly : Exactly (IsPath 5 complete 0 4) (2 ^ (5 - 2))
+complete-exactly = rw complete-count at (pathCount-exact 5 complete (complete-acyclic 5) (λ i j hi hj. complete-le i j) 0 4 (omega arith))

@@ -6,4 +6,5 @@ pub mod Peeling
 pub mod Recurrence
 pub mod Counting
 pub mod Bound
+pub mod Edges
 pub mod Examples

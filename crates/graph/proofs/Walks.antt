@@ -5,7 +5,7 @@ use mathlib.Core.List.{List, [], _∷_, _++_}
 use Prim.Native.Nat.{ℕ, _≤_, _<_}
 use native.Mathlib.Omega.{arith}
 use lib.ListN.{length}
-use Rattle.graph.specs.Graph.{_isIn_, Edge, Walk, Path, Cycle, Acyclic}
+use Rattle.graph.specs.Graph.{_isIn_, Edge, Walk, IsPath, Cycle, Acyclic}
 use Rattle.graph.proofs.Pigeon.{Below, pigeonhole}
 
 module _ (n : ℕ) (w : ℕ → ℕ → ℕ) where
@@ -25,12 +25,12 @@ module _ (n : ℕ) (w : ℕ → ℕ → ℕ) where
   walk-end i (b ∷ l) j p = inr (walk-end b l j (p .2))
 
   -- a path has at most n vertices
-  pub path-length-le : (i j : ℕ) (l : List ℕ) → Path n w i j l → length l ≤ n
+  pub path-length-le : (i j : ℕ) (l : List ℕ) → IsPath n w i j l → length l ≤ n
   path-length-le i j [] p = absurd p
   path-length-le i j (a ∷ l) p = pigeonhole n (a ∷ l) (λ x m. elim m [ inl e ↦ rw e (p .1) | inr q ↦ walk-below a l j (p .2) x q ]) (p .3)
 
   -- a path from i to i is i alone: with an edge it would come to i twice
-  pub path-self-only : (i : ℕ) (l : List ℕ) → Path n w i i l → l ≡ i ∷ []
+  pub path-self-only : (i : ℕ) (l : List ℕ) → IsPath n w i i l → l ≡ i ∷ []
   path-self-only i [] p = absurd p
   path-self-only i (a ∷ []) p = rw (p .0)
   path-self-only i (a ∷ b ∷ l) p = absurd (p .3 .0 (rw (p .0) (walk-end b l i (p .2 .2))))
@@ -55,7 +55,7 @@ module _ (n : ℕ) (w : ℕ → ℕ → ℕ) where
   walk-reach i [] j x p m = elim m [ inl e ↦ rw e (reach-refl i) | inr q ↦ absurd q ]
   walk-reach i (b ∷ l) j x p m = elim m [ inl e ↦ rw e (reach-refl i) | inr q ↦ reach-step (p .0) (p .1) (walk-reach b l j x (p .2) q) ]
 
-  pub path-reach : (i j : ℕ) (l : List ℕ) → Path n w i j l → Reach i j
+  pub path-reach : (i j : ℕ) (l : List ℕ) → IsPath n w i j l → Reach i j
   path-reach i j [] p = absurd p
   path-reach i j (a ∷ l) p = (l, rw (p .0) at (p .2))
 
@@ -70,7 +70,7 @@ module _ (n : ℕ) (w w′ : ℕ → ℕ → ℕ) (more : (i j : ℕ) → i < n 
   walk-widen i [] j h e = e
   walk-widen i (b ∷ l) j h p = (p .0, more i b h (p .0) (p .1), walk-widen b l j (p .0) (p .2))
 
-  pub path-widen : (i j : ℕ) (l : List ℕ) → Path n w i j l → Path n w′ i j l
+  pub path-widen : (i j : ℕ) (l : List ℕ) → IsPath n w i j l → IsPath n w′ i j l
   path-widen i j [] p = p
   path-widen i j (a ∷ l) p = (p .0, p .1, walk-widen a l j (p .1) (p .2), p .3)
 
@@ -89,7 +89,7 @@ module _ (n : ℕ) (w w′ : ℕ → ℕ → ℕ) (same : (i j : ℕ) → i < n 
   same-edge : (i j : ℕ) → i < n → j < n → Edge n w i j → Edge n w′ i j
   same-edge i j hi hj p = omega (arith, same i j hi hj)
 
-  pub path-cong : (i j : ℕ) (l : List ℕ) → Path n w i j l → Path n w′ i j l
+  pub path-cong : (i j : ℕ) (l : List ℕ) → IsPath n w i j l → IsPath n w′ i j l
   path-cong = path-widen n w w′ same-edge
 
   pub cycle-cong : Cycle n w → Cycle n w′

@@ -1,4 +1,4 @@
--- The number of paths by a recursion that computes. `exactly` in proofs/Counting.antt says that it is the number of paths, so nobody has to believe it.
+-- The number of paths by a recursion that computes. `pathCount-exact` in proofs/Counting.antt says that it is the number of paths, so nobody has to believe it.
 -- Definitions only. Assumes nothing.
 use Prim.Native.Nat.{ℕ, zero, suc, _+_, _*_}
 use Rattle.sums.specs.Sum.{sum, delta}

@@ -39,9 +39,9 @@ module _ (n : ℕ) (w : ℕ → ℕ → ℕ) where
 
   -- A path from i to j, a route of document 01: the vertices of a walk from i to j, i itself first, none of them twice.
   -- So a vertex alone is a path to itself.
-  abbrev pub Path : ℕ → ℕ → List ℕ → Type 0
-  Path i j [] = ⊥
-  Path i j (a ∷ l) = (a ≡ i) × (a < n) × Walk a l j × Distinct (a ∷ l)
+  abbrev pub IsPath : ℕ → ℕ → List ℕ → Type 0
+  IsPath i j [] = ⊥
+  IsPath i j (a ∷ l) = (a ≡ i) × (a < n) × Walk a l j × Distinct (a ∷ l)
 
   -- A cycle, a ring of document 01: a walk of one edge or more from a vertex back to it.
   pub record Cycle : Type 0 where

@@ -26,11 +26,11 @@ answer-ext r r′ a b c =
 
 module _ (n : ℕ) (s : List ℕ) (k : ℕ) (ek : k ≡ shapeNumber n (length s)) where
   -- a call that the check of the shape refuses, whatever it looks for besides
-  answered-stops : (ts : Tests) (v : ℕ) (r : Answer) → r ≡ answer k 0 0 → (k ≡ 0 → ⊥) → r ≡ answered (firstTrue (sizedTests n s ts)) v
+  answered-stops : (ts : Tests) (v : ℕ) (r : Answer) → r ≡ answer k 0 0 → (k ≡ 0 → ⊥) → r ≡ answered (firstTrue (sizedTests n (length s) ts)) v
   answered-stops ts v r er h = er ∙ sym (ap (λ (x : ℕ). answered x v) (sized-stops n s ts k ek h) ∙ ap (λ (x : ℕ). answer k 0 x) (decided-old k v 0 h))
 
   -- and one that it lets pass
-  answered-passes : (ts : Tests) (m v : ℕ) → k ≡ 0 → firstTrue ts ≡ m → answered (firstTrue (sizedTests n s ts)) v ≡ answered m v
+  answered-passes : (ts : Tests) (m v : ℕ) → k ≡ 0 → firstTrue ts ≡ m → answered (firstTrue (sizedTests n (length s) ts)) v ≡ answered m v
   answered-passes ts m v z e = ap (λ (x : ℕ). answered x v) (sized-passes n s ts (shape-of n s k ek z) ∙ e)
 
   -- ---- empty

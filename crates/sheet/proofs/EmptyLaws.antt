@@ -8,9 +8,9 @@ use native.Mathlib.Omega.{arith}
 use lib.ListN.{length, getD, List·getD-eq-default}
 use Rattle.sums.specs.Sum.{delta}
 use Rattle.sums.proofs.SumLaws.{delta-refl, delta-diff}
-use Rattle.sheet.specs.Layout.{size, countAt, build, emptySheet}
+use Rattle.sheet.specs.Layout.{Shape, size, countAt, build, emptySheet}
 use Rattle.sheet.specs.Fill.{puts, over}
-use Rattle.sheet.specs.Internal.{Shape, diagonalAt}
+use Rattle.sheet.specs.Internal.{diagonalAt}
 use Rattle.sheet.proofs.FillLaws.{length-puts, puts-in, puts-out, over-in}
 use Rattle.sheet.proofs.LayoutLaws.{place-lt, place-row, place-column, length-build, redone-ext}
 

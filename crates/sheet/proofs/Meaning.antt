@@ -2,33 +2,37 @@
 use mathlib.Core.Path.{_≡_, refl, sym, ap, ap₂, subst, _∙_}
 use mathlib.Core.Logic.{inl, inr, _↔_}
 use mathlib.Core.List.{List, [], _∷_}
-use Prim.Native.Nat.{ℕ, _+_, _*_, _%_, _^_, _≤_, _<_}
-use native.Mathlib.Nat.{mod-eq-of-lt, zero-mul}
+use Prim.Native.Nat.{ℕ, _+_, _-_, _*_, _%_, _^_, _≤_, _<_}
+use native.Mathlib.Nat.{mod-eq-of-lt, zero-mul, mul-le-mul-right}
 use native.Mathlib.Decide.{ℕ-discrete}
 use native.Mathlib.Omega.{arith}
 use lib.ListN.{length, set}
 use lib.Pow.{pow-pos}
 use lib.Seq.{getD-set-same, getD-set-other}
 use Rattle.sums.specs.Sum.{sum, delta}
-use Rattle.sums.proofs.SumLaws.{sum-all-zero, delta-refl, delta-diff}
-use Rattle.word.specs.Bit.{bit}
+use Rattle.sums.proofs.SumLaws.{sum-cong, sum-all-zero, delta-refl, delta-diff}
+use Rattle.word.specs.Bit.{bit, bitCount}
 use Rattle.word.proofs.BitLaws.{bit-zero}
-use Rattle.graph.specs.Graph.{Exactly, Path, Cycle}
+use Rattle.word.proofs.CountLaws.{bitCount-below}
+use Rattle.graph.specs.Graph.{Exactly, IsPath, Cycle}
 use Rattle.graph.proofs.Lists.{exactly-cong}
+use Rattle.graph.proofs.Bound.{bound}
+use Rattle.graph.proofs.Edges.{edges-le}
 use Rattle.graph.proofs.Walks.{edgeless-acyclic, path-cong, cycle-cong}
 use Rattle.sheet.specs.declared.answer.Answer.{Answer}
 use Rattle.sheet.specs.Table.{_gives_, First}
 use Rattle.sheet.specs.Answers.{decided}
-use Rattle.sheet.specs.Layout.{size, rowAt, countAt, edgeAt, build, emptySheet}
-use Rattle.sheet.specs.Conditions.{BadCount, BadLength, StrayRow, vertexConditions, rowConditions}
+use Rattle.sheet.specs.Layout.{Shape, size, rowAt, countAt, edgeAt, build, emptySheet, setBits}
+use Rattle.sheet.specs.Conditions.{BadVertices, BadLength, StrayRow, vertexConditions, rowConditions}
 use Rattle.sheet.specs.Valid.{Valid}
 use Rattle.sheet.specs.Calls.{emptyAnswer, emptyAfter, pathCountAnswer, recountConditions, Recounted, Recount, validateConditions, Validate}
-use Rattle.sheet.specs.Internal.{Shape, successorsSum, RowHolds}
+use Rattle.sheet.specs.Internal.{successorsSum, RowHolds}
 use Rattle.sheet.proofs.TableLaws.{first-only, first-cong}
 use Rattle.sheet.proofs.ShapeLaws.{accepted-shape, shape-not, shape-passed}
+use Rattle.sheet.proofs.StrayLaws.{rows-iff}
 use Rattle.sheet.proofs.AnswerLaws.{answer-ext}
 use Rattle.sheet.proofs.LayoutLaws.{place-lt, length-build, length-redone, row-redone, count-redone}
-use Rattle.sheet.proofs.ValidLaws.{valid-shape, valid-iff-holds, valid-only}
+use Rattle.sheet.proofs.ValidLaws.{edge-le, valid-iff-holds, valid-only}
 use Rattle.sheet.proofs.RowLaws.{setBits-cong}
 use Rattle.sheet.proofs.Refusals.{empty-table, path-count-table}
 
@@ -68,26 +72,40 @@ module _ (n : ℕ) where
       (λ r. omega (arith, r .2 .2, ap (λ (x : ℕ). bit x (r .2 .0)) (empty-row (r .0) (r .1)) ∙ bit-zero (r .2 .0)))
       (edgeless-acyclic n (edgeAt (emptySheet n)) empty-edge) .1 empty-holds
 
--- an accepted call leaves that sheet
-pub empty-leaves : (n : ℕ) (s : List ℕ) → emptyAnswer n s .number ≡ 0 → (emptyAfter n s ≡ emptySheet n) × Valid n (emptyAfter n s)
+-- an accepted call leaves a valid sheet without edges
+pub empty-leaves : (n : ℕ) (s : List ℕ) → emptyAnswer n s .number ≡ 0
+    → Valid n (emptyAfter n s) × ((i j : ℕ) → i < n → j < n → edgeAt (emptyAfter n s) i j ≡ 0)
 empty-leaves n s z =
     let e : emptyAfter n s ≡ emptySheet n = ap (λ (k : ℕ). decided k (emptySheet n) s) z in
     let h : Shape n s = accepted-shape n s [] (empty-table n s 0 .0 z) in
-    (e, rw e (empty-valid n (h .low) (h .high)))
+    rw e (empty-valid n (h .low) (h .high), empty-edge n)
 
 -- ---- path_count
 
 -- on a valid sheet the value is exactly the number of paths from i to j
-pub path-count-exact : (n : ℕ) (s : List ℕ) (i j : ℕ) → Valid n s → i < n → j < n → Exactly (Path n (edgeAt s) i j) (pathCountAnswer n s i j .value)
+pub path-count-exact : (n : ℕ) (s : List ℕ) (i j : ℕ) → Valid n s → i < n → j < n → Exactly (IsPath n (edgeAt s) i j) (pathCountAnswer n s i j .value)
 path-count-exact n s i j v hi hj =
     let z : pathCountAnswer n s i j .number ≡ 0
-    = path-count-table n s i j 0 .1 (shape-passed n s (valid-shape n s v) (vertexConditions n i j) 0 (inr (λ c. elim c [ inl l ↦ omega arith | inr l ↦ omega arith ], refl))) in
-    subst (Exactly (Path n (edgeAt s) i j)) (sym (ap (λ (k : ℕ). decided k (countAt n s i j) 0) z)) (v .counts i j hi hj)
+    = path-count-table n s i j 0 .1 (shape-passed n s (v .shape) (vertexConditions n i j) 0 (inr (λ c. elim c [ inl l ↦ omega arith | inr l ↦ omega arith ], refl))) in
+    subst (Exactly (IsPath n (edgeAt s) i j)) (sym (ap (λ (k : ℕ). decided k (countAt n s i j) 0) z)) (v .counts i j hi hj)
+
+-- and that is at most 2 ^ (n - 2) between two different vertices, so that with 64 vertices it fits a word
+pub valid-count-le : (n : ℕ) (s : List ℕ) → Valid n s → (i j : ℕ) → i < n → j < n → (i ≡ j → ⊥) → countAt n s i j ≤ 2 ^ (n - 2)
+valid-count-le n s v i j hi hj d = bound n (edgeAt s) (v .acyclic) i j (countAt n s i j) hi hj d (v .counts i j hi hj)
+
+-- a valid sheet has at most 2,016 edges
+pub valid-edges-le : (n : ℕ) (s : List ℕ) → Valid n s → setBits n s ≤ 2016
+unfolding setBits
+valid-edges-le n s v =
+    let high : n ≤ 64 = v .shape .high in
+    let e : sum n (λ i. bitCount (rowAt s i)) ≡ sum n (λ i. sum n (edgeAt s i))
+    = sum-cong n _ _ (λ i hi. bitCount-below n (rowAt s i) high (rows-iff n s .0 (v .rows) i hi)) in
+    omega (arith, e, edges-le n (edgeAt s) (v .acyclic) (λ i j hi hj. edge-le s i j), mul-le-mul-right n high)
 
 -- ---- recount
 
 -- once the earlier checks pass, the number is 8 exactly if the rows' edges have a cycle
-pub recount-cycle-iff : (n : ℕ) (s : List ℕ) (r : Answer) (t : List ℕ) → Recount n s r t → ¬ (BadCount n) → ¬ (BadLength n s) → ¬ (StrayRow n s)
+pub recount-cycle-iff : (n : ℕ) (s : List ℕ) (r : Answer) (t : List ℕ) → Recount n s r t → ¬ (BadVertices n) → ¬ (BadLength n s) → ¬ (StrayRow n s)
     → (r .number ≡ 8) ↔ Cycle n (edgeAt s)
 recount-cycle-iff n s r t h a b c = (
   λ e. go (h .number) e,
@@ -126,9 +144,7 @@ module _ (n : ℕ) (s t : List ℕ) (h : Recounted n s t) (long : length s ≡ s
 
   recounted-valid : Sound n s → Valid n t
   recounted-valid o = record {
-    low = o .shape .low;
-    high = o .shape .high;
-    long = recounted-long ∙ long;
+    shape = record { low = o .shape .low; high = o .shape .high; long = recounted-long ∙ long };
     rows = λ q. o .rows (q .0, q .1, rw (recounted-row (q .0) (q .1)) at (q .2));
     acyclic = λ q. o .acyclic (cycle-cong n (edgeAt t) (edgeAt s) (λ i j hi hj. sym (recounted-edge i j hi hj)) q);
     counts = λ i j hi hj. exactly-cong
@@ -158,7 +174,7 @@ module _ (n : ℕ) (s s′ : List ℕ) (long : length s ≡ length s′) (same :
 
   same-first : (k : ℕ) → First (recountConditions n s) k → First (recountConditions n s′) k
   same-first k =
-      first-cong {P = BadCount n} {Q = BadCount n} 1 (BadLength n s gives 2 ∷ rowConditions n s) (BadLength n s′ gives 2 ∷ rowConditions n s′) k ((λ p. p), (λ p. p))
+      first-cong {P = BadVertices n} {Q = BadVertices n} 1 (BadLength n s gives 2 ∷ rowConditions n s) (BadLength n s′ gives 2 ∷ rowConditions n s′) k ((λ p. p), (λ p. p))
       (first-cong {P = BadLength n s} {Q = BadLength n s′} 2 (rowConditions n s) (rowConditions n s′) k ((λ p e. p (long ∙ e)), (λ p e. p (sym long ∙ e)))
       (first-cong 4 (Cycle n (edgeAt s) gives 8 ∷ []) (Cycle n (edgeAt s′) gives 8 ∷ []) k (same-stray n s s′ same, same-stray n s′ s back)
       (first-cong 8 [] [] k (same-cycle n s s′ same, same-cycle n s′ s back) (λ p. p))))
@@ -191,7 +207,7 @@ pub recount-same : (n : ℕ) (s : List ℕ) (r : Answer) (t : List ℕ) → Vali
 recount-same n s r t v h =
     let z : r .number ≡ 0
     = first-only (recountConditions n s) (r .number) 0 (h .number)
-    (shape-passed n s (valid-shape n s v) (rowConditions n s) 0 (inr (v .rows, inr (v .acyclic, refl)))) in
+    (shape-passed n s (v .shape) (rowConditions n s) 0 (inr (v .rows, inr (v .acyclic, refl)))) in
     let w = recount-valid n s r t h z in
     (z, valid-only n t s (w .0) v (w .1))
 
@@ -217,4 +233,4 @@ validate-only n s r r′ h h′ =
 pub valid-changed : (n : ℕ) (s : List ℕ) → Valid n s → (i j x : ℕ) → i < n → j < n → (x ≡ countAt n s i j → ⊥) → ¬ (Valid n (set s (n + i * n + j) x))
 valid-changed n s v i j x hi hj d v′ =
     let e = valid-only n (set s (n + i * n + j) x) s v′ v (λ k hk. getD-set-other s (n + i * n + j) k x 0 (λ q. omega arith)) in
-    d (sym (getD-set-same s (n + i * n + j) x 0 (omega (arith, place-lt n i j hi hj, v .long))) ∙ ap (λ (l : List ℕ). countAt n l i j) e)
+    d (sym (getD-set-same s (n + i * n + j) x 0 (omega (arith, place-lt n i j hi hj, v .shape .long))) ∙ ap (λ (l : List ℕ). countAt n l i j) e)

@@ -14,14 +14,13 @@ use Rattle.sums.specs.Sum.{sum, delta}
 use Rattle.sums.specs.Modulo.{Congruent}
 use Rattle.sums.proofs.ModuloLaws.{congruent-add, congruent-mul, congruent-sum}
 use Rattle.word.specs.Bit.{bit}
-use Rattle.graph.specs.Graph.{Exactly, Path, Cycle}
+use Rattle.graph.specs.Graph.{Exactly, IsPath, Cycle}
 use Rattle.graph.specs.Count.{pathCount}
 use Rattle.graph.proofs.Recurrence.{pathCount-recurrence}
-use Rattle.sheet.specs.declared.order.Peeling.{Peeling}
 use Rattle.sheet.specs.Table.{Reflects, First}
 use Rattle.sheet.specs.Conditions.{StrayRow, rowConditions}
-use Rattle.sheet.specs.Layout.{rowAt, countAt, edgeAt, setBits}
-use Rattle.sheet.specs.Internal.{Shape, successorsSum, RowFilled, RowsBelow, vertexAt, Ordered, OrderFound, shapeNumber, counted}
+use Rattle.sheet.specs.Layout.{Shape, rowAt, countAt, edgeAt, setBits}
+use Rattle.sheet.specs.Internal.{successorsSum, RowFilled, RowsBelow, vertexAt, Ordered, OrderFound, shapeNumber, counted}
 use Rattle.sheet.proofs.TableLaws.{reflects-false}
 use Rattle.sheet.proofs.ValidLaws.{paths-exactly, paths-fit}
 use Rattle.sheet.proofs.LayoutLaws.{row-within, place-apart, redone-ext, length-redone, row-redone, count-redone, rest-redone}
@@ -120,7 +119,7 @@ recounted-of n s t shape acyclic e =
           (λ i hi. ap (λ (l : List ℕ). rowAt l i) e ∙ row-redone n (rowAt s) c s (shape .long) i hi)
           (λ i j hi hj. refl)
           (λ k q. ap (λ (l : List ℕ). getD l k 0) e ∙ rest-redone n (rowAt s) c s k q);
-      counts = λ i j hi hj. subst (Exactly (Path n (edgeAt s) i j)) (sym (count i j hi hj)) (paths-exactly n s (shape .high) acyclic i j hi);
+      counts = λ i j hi hj. subst (Exactly (IsPath n (edgeAt s) i j)) (sym (count i j hi hj)) (paths-exactly n s (shape .high) acyclic i j hi);
     }
 
 module _ (n : ℕ) (s : List ℕ) (k : ℕ) (ek : k ≡ shapeNumber n (length s)) where

@@ -4,6 +4,7 @@ use mathlib.Core.Path.{_≡_, refl}
 use mathlib.Core.Logic.{_↔_}
 use mathlib.Core.List.{List, []}
 use Prim.Native.Nat.{ℕ}
+use lib.ListN.{length}
 use Rattle.sheet.specs.declared.answer.Answer.{Answer}
 use Rattle.sheet.specs.Table.{First}
 use Rattle.sheet.specs.Conditions.{vertexConditions, vertexTests, sizedTests}
@@ -12,12 +13,12 @@ use Rattle.sheet.proofs.TableLaws.{reflects-or, reflects-le, first-true
 use Rattle.sheet.proofs.ShapeLaws.{sized-agree}
 
 pub empty-table : (n : ℕ) (s : List ℕ) (k : ℕ) → (emptyAnswer n s .number ≡ k) ↔ First (emptyConditions n s) k
-empty-table n s k = first-iff (emptyConditions n s) _ k (first-true (emptyConditions n s) (sizedTests n s []) (sized-agree n s [] [] (λ h. tt)))
+empty-table n s k = first-iff (emptyConditions n s) _ k (first-true (emptyConditions n s) (sizedTests n (length s) []) (sized-agree n s [] [] (λ h. tt)))
 
 pub path-count-table : (n : ℕ) (s : List ℕ) (i j k : ℕ) → (pathCountAnswer n s i j .number ≡ k) ↔ First (pathCountConditions n s i j) k
 path-count-table n s i j k =
     first-iff (pathCountConditions n s i j) _ k
-    (first-true (pathCountConditions n s i j) (sizedTests n s (vertexTests n i j))
+    (first-true (pathCountConditions n s i j) (sizedTests n (length s) (vertexTests n i j))
     (sized-agree n s (vertexConditions n i j) (vertexTests n i j) (λ h. (reflects-or (reflects-le n i) (reflects-le n j), refl, λ d. tt))))
 
 pub recount-table : (n : ℕ) (s : List ℕ) (r : Answer) (t : List ℕ) → Recount n s r t → (k : ℕ) → (r .number ≡ k) ↔ First (recountConditions n s) k

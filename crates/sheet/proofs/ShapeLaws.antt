@@ -9,13 +9,13 @@ use native.Mathlib.Omega.{arith}
 use lib.Dec.{ltb, eqb}
 use lib.ListN.{length}
 use Rattle.sheet.specs.Table.{Conditions, First, Tests, firstTrue}
-use Rattle.sheet.specs.Layout.{size}
-use Rattle.sheet.specs.Conditions.{BadCount, BadLength, sized, sizedTests}
-use Rattle.sheet.specs.Internal.{shapeNumber, Shape}
+use Rattle.sheet.specs.Layout.{Shape, size}
+use Rattle.sheet.specs.Conditions.{BadVertices, BadLength, sized, sizedTests}
+use Rattle.sheet.specs.Internal.{shapeNumber}
 use Rattle.sheet.proofs.TableLaws.{Agree, reflects-or, reflects-not, reflects-lt, reflects-eq, reflects-false, first-true, first-here, first-next, first-none}
 
 -- a sheet of which neither holds has the shape
-pub shape-not : (n : ℕ) (s : List ℕ) → ¬ (BadCount n) → ¬ (BadLength n s) → Shape n s
+pub shape-not : (n : ℕ) (s : List ℕ) → ¬ (BadVertices n) → ¬ (BadLength n s) → Shape n s
 shape-not n s p q = record {
   low = elim (decLt n 1) [ yes l ↦ absurd (p (inl l)) | no l ↦ omega arith ];
   high = elim (decLt 64 n) [ yes l ↦ absurd (p (inr l)) | no l ↦ omega arith ];
@@ -24,7 +24,7 @@ shape-not n s p q = record {
 
 -- ---- the two tests decide the two conditions
 
-pub sized-agree : (n : ℕ) (s : List ℕ) (cs : Conditions) (ts : Tests) → (Shape n s → Agree cs ts) → Agree (sized n s cs) (sizedTests n s ts)
+pub sized-agree : (n : ℕ) (s : List ℕ) (cs : Conditions) (ts : Tests) → (Shape n s → Agree cs ts) → Agree (sized n s cs) (sizedTests n (length s) ts)
 sized-agree n s cs ts h = (
   reflects-or (reflects-lt n 1) (reflects-lt 64 n),
   refl,
@@ -40,7 +40,7 @@ module _ (n len : ℕ) where
   pub shape-many : 64 < n → 1 ≡ shapeNumber n len
   shape-many h = sym (first-here _ _ (reflects-or (reflects-lt n 1) (reflects-lt 64 n) .shows (inr h)))
 
-  some : 1 ≤ n → n ≤ 64 → ¬ (BadCount n)
+  some : 1 ≤ n → n ≤ 64 → ¬ (BadVertices n)
   some p q c = elim c [ inl l ↦ omega arith | inr l ↦ omega arith ]
 
   pub shape-long : 1 ≤ n → n ≤ 64 → (len ≡ size n → ⊥) → 2 ≡ shapeNumber n len
@@ -58,7 +58,7 @@ module _ (n len : ℕ) where
 
 module _ (n : ℕ) (s : List ℕ) where
   shape-first : First (sized n s []) (shapeNumber n (length s))
-  shape-first = first-true (sized n s []) (sizedTests n s []) (sized-agree n s [] [] (λ h. tt))
+  shape-first = first-true (sized n s []) (sizedTests n (length s) []) (sized-agree n s [] [] (λ h. tt))
 
   -- a number that is not 0 is the call's
   pub shape-refused : (k : ℕ) → k ≡ shapeNumber n (length s) → (k ≡ 0 → ⊥) → (cs : Conditions) → First (sized n s cs) k
@@ -89,7 +89,7 @@ module _ (n : ℕ) (s : List ℕ) where
 -- ---- the same of tests
 
 module _ (n : ℕ) (s : List ℕ) (ts : Tests) where
-  pub sized-stops : (k : ℕ) → k ≡ shapeNumber n (length s) → (k ≡ 0 → ⊥) → firstTrue (sizedTests n s ts) ≡ k
+  pub sized-stops : (k : ℕ) → k ≡ shapeNumber n (length s) → (k ≡ 0 → ⊥) → firstTrue (sizedTests n (length s) ts) ≡ k
   unfolding firstTrue
   sized-stops k e d = go (ltb n 1 || ltb 64 n) (not (eqb (length s) (size n))) e
     where
@@ -98,7 +98,7 @@ module _ (n : ℕ) (s : List ℕ) (ts : Tests) where
       go false true q = sym q
       go false false q = absurd (d q)
 
-  pub sized-passes : Shape n s → firstTrue (sizedTests n s ts) ≡ firstTrue ts
+  pub sized-passes : Shape n s → firstTrue (sizedTests n (length s) ts) ≡ firstTrue ts
   sized-passes h =
       first-next _ _ (reflects-false (reflects-or (reflects-lt n 1) (reflects-lt 64 n)) .1 (λ c. elim c [ inl l ↦ omega (arith, h .low) | inr l ↦ omega (arith, h .high) ]))
       ∙ first-next _ _ (reflects-false (reflects-not (reflects-eq (length s) (size n))) .1 (λ d. d (h .long)))

@@ -12,16 +12,16 @@ use Rattle.sums.specs.Sum.{delta}
 use Rattle.sums.proofs.SumLaws.{sum-cong}
 use Rattle.word.specs.Bit.{bit}
 use Rattle.word.proofs.BitLaws.{bit-lt}
-use Rattle.graph.specs.Graph.{Exactly, Path, Acyclic}
+use Rattle.graph.specs.Graph.{Exactly, IsPath, Acyclic}
 use Rattle.graph.specs.Count.{pathCount}
 use Rattle.graph.proofs.Lists.{exactly-only}
 use Rattle.graph.proofs.Recurrence.{pathCount-recurrence, pathCount-cong, recurrence-mod-only}
-use Rattle.graph.proofs.Counting.{exactly}
-use Rattle.graph.proofs.Bound.{count-below}
-use Rattle.sheet.specs.Layout.{size, rowAt, countAt, edgeAt, redone}
+use Rattle.graph.proofs.Counting.{pathCount-exact}
+use Rattle.graph.proofs.Bound.{paths-below}
+use Rattle.sheet.specs.Layout.{Shape, size, rowAt, countAt, edgeAt, redone}
 use Rattle.sheet.specs.Conditions.{StrayRow}
 use Rattle.sheet.specs.Valid.{Valid}
-use Rattle.sheet.specs.Internal.{Shape, successorsSum, RowHolds}
+use Rattle.sheet.specs.Internal.{successorsSum, RowHolds}
 use Rattle.sheet.proofs.LayoutLaws.{redone-ext}
 
 pub edge-le : (s : List ℕ) (i j : ℕ) → edgeAt s i j ≤ 1
@@ -29,11 +29,11 @@ edge-le s i j = omega (arith, bit-lt (rowAt s i) j)
 
 -- the paths over the rows of a sheet without a cycle are as many as `pathCount` says, and that fits a word
 module _ (n : ℕ) (s : List ℕ) (high : n ≤ 64) (acyclic : Acyclic n (edgeAt s)) where
-  pub paths-exactly : (i j : ℕ) → i < n → Exactly (Path n (edgeAt s) i j) (pathCount n (edgeAt s) i j)
-  paths-exactly i j hi = exactly n (edgeAt s) acyclic (λ a b ha hb. edge-le s a b) i j hi
+  pub paths-exactly : (i j : ℕ) → i < n → Exactly (IsPath n (edgeAt s) i j) (pathCount n (edgeAt s) i j)
+  paths-exactly i j hi = pathCount-exact n (edgeAt s) acyclic (λ a b ha hb. edge-le s a b) i j hi
 
   pub paths-fit : (i j : ℕ) → i < n → j < n → pathCount n (edgeAt s) i j % 2 ^ 64 ≡ pathCount n (edgeAt s) i j
-  paths-fit i j hi hj = mod-eq-of-lt (count-below n (edgeAt s) acyclic high i j _ hi hj (paths-exactly i j hi))
+  paths-fit i j hi hj = mod-eq-of-lt (paths-below n (edgeAt s) acyclic high i j _ hi hj (paths-exactly i j hi))
 
   -- counts that satisfy the recurrence are the numbers of paths
   pub holds-count : ((i : ℕ) → i < n → RowHolds n s i) → (i j : ℕ) → i < n → j < n → countAt n s i j ≡ pathCount n (edgeAt s) i j
@@ -52,29 +52,24 @@ module _ (n : ℕ) (s : List ℕ) (high : n ≤ 64) (acyclic : Acyclic n (edgeAt
       ∙ ap (λ (x : ℕ). x % 2 ^ 64)
       (pathCount-recurrence n (edgeAt s) acyclic i j hi hj ∙ ap (λ (x : ℕ). delta i j + x) (sum-cong n _ _ (λ b hb. ap (λ (x : ℕ). edgeAt s i b * x) (sym (h b j hb hj)))))
 
-pub valid-shape : (n : ℕ) (s : List ℕ) → Valid n s → Shape n s
-valid-shape n s v = record { low = v .low; high = v .high; long = v .long }
-
 pub valid-count : (n : ℕ) (s : List ℕ) → Valid n s → (i j : ℕ) → i < n → j < n → countAt n s i j ≡ pathCount n (edgeAt s) i j
-valid-count n s v i j hi hj = exactly-only (v .counts i j hi hj) (paths-exactly n s (v .high) (v .acyclic) i j hi)
+valid-count n s v i j hi hj = exactly-only (v .counts i j hi hj) (paths-exactly n s (v .shape .high) (v .acyclic) i j hi)
 
 -- VALID: a sheet of the right shape, without a stray bit and without a cycle, is valid exactly if its counts satisfy the recurrence
 pub valid-iff-holds : (n : ℕ) (s : List ℕ) → Shape n s → ¬ (StrayRow n s) → Acyclic n (edgeAt s) → Valid n s ↔ ((i : ℕ) → i < n → RowHolds n s i)
 valid-iff-holds n s shape rows acyclic = (
   λ v. count-holds n s (shape .high) acyclic (valid-count n s v),
   λ h. record {
-    low = shape .low;
-    high = shape .high;
-    long = shape .long;
+    shape = shape;
     rows = rows;
     acyclic = acyclic;
-    counts = λ i j hi hj. subst (Exactly (Path n (edgeAt s) i j)) (sym (holds-count n s (shape .high) acyclic h i j hi hj)) (paths-exactly n s (shape .high) acyclic i j hi);
+    counts = λ i j hi hj. subst (Exactly (IsPath n (edgeAt s) i j)) (sym (holds-count n s (shape .high) acyclic h i j hi hj)) (paths-exactly n s (shape .high) acyclic i j hi);
   },
 )
 
 -- two valid sheets with the same rows are the same, word for word
 pub valid-only : (n : ℕ) (s t : List ℕ) → Valid n s → Valid n t → ((i : ℕ) → i < n → rowAt s i ≡ rowAt t i) → s ≡ t
-valid-only n s t v v′ h = redone-same s (v .long) (λ i hi. refl) (λ i j hi hj. refl) ∙ sym (redone-same t (v′ .long) (λ i hi. sym (h i hi)) (λ i j hi hj. valid-count n t v′ i j hi hj ∙ sym (pathCount-cong n (edgeAt s) (edgeAt t) (λ a b ha hb. ap (λ x. bit x b) (h a ha)) i j hi) ∙ sym (valid-count n s v i j hi hj)))
+valid-only n s t v v′ h = redone-same s (v .shape .long) (λ i hi. refl) (λ i j hi hj. refl) ∙ sym (redone-same t (v′ .shape .long) (λ i hi. sym (h i hi)) (λ i j hi hj. valid-count n t v′ i j hi hj ∙ sym (pathCount-cong n (edgeAt s) (edgeAt t) (λ a b ha hb. ap (λ x. bit x b) (h a ha)) i j hi) ∙ sym (valid-count n s v i j hi hj)))
   where
     redone-same : (u : List ℕ) → length u ≡ size n → ((i : ℕ) → i < n → rowAt u i ≡ rowAt s i) → ((i j : ℕ) → i < n → j < n → countAt n u i j ≡ countAt n s i j) → u ≡ redone n (rowAt s) (countAt n s) s
-    redone-same u e hr hc = redone-ext n (rowAt s) (countAt n s) s u (e ∙ sym (v .long)) hr hc (λ k q. List·getD-eq-default u 0 (omega arith) ∙ sym (List·getD-eq-default s 0 (omega (arith, v .long))))
+    redone-same u e hr hc = redone-ext n (rowAt s) (countAt n s) s u (e ∙ sym (v .shape .long)) hr hc (λ k q. List·getD-eq-default u 0 (omega arith) ∙ sym (List·getD-eq-default s 0 (omega (arith, v .shape .long))))

@@ -5,13 +5,13 @@ use mathlib.Core.Bool.{Bool, true, false}
 use mathlib.Core.List.{List, []}
 use Prim.Native.Nat.{ℕ, _<_}
 use lib.ListN.{length}
-use Rattle.sheet.specs.declared.order.Peeling.{Peeling}
+use Rattle.sheet.specs.Layout.{Shape}
 use Rattle.sheet.specs.Table.{Reflects}
 use Rattle.sheet.specs.Conditions.{StrayRow, sized}
 use Rattle.sheet.specs.Valid.{Valid}
-use Rattle.sheet.specs.Internal.{Shape, RowHolds, OrderFound, shapeNumber}
+use Rattle.sheet.specs.Internal.{RowHolds, OrderFound, shapeNumber}
 use Rattle.sheet.proofs.TableLaws.{reflects-none, reflects-false, reflects-iff, first-only}
-use Rattle.sheet.proofs.ValidLaws.{valid-iff-holds, valid-shape}
+use Rattle.sheet.proofs.ValidLaws.{valid-iff-holds}
 use Rattle.sheet.specs.declared.answer.Answer.{Answer}
 use Rattle.sheet.specs.Answers.{answer}
 use Rattle.sheet.specs.Calls.{Validate}
@@ -40,7 +40,7 @@ module _ (n : ℕ) (s : List ℕ) (k : ℕ) (ek : k ≡ shapeNumber n (length s)
   validate-refused r er d = rw er record {
     number = shape-refused n s k ek d [];
     place = refl;
-    value = inr (λ v. d (first-only (sized n s []) k 0 (shape-refused n s k ek d []) (shape-passed n s (valid-shape n s v) [] 0 refl)), refl);
+    value = inr (λ v. d (first-only (sized n s []) k 0 (shape-refused n s k ek d []) (shape-passed n s (v .shape) [] 0 refl)), refl);
   }
 
   pub validate-valid : (r : Answer) (t : Bool) → r ≡ answer 0 0 1 → k ≡ 0 → Reflects t (Valid n s) → t ≡ true → Validate n s r

@@ -3,7 +3,8 @@ use mathlib.Core.Path.{_≡_}
 use mathlib.Core.Logic.{_⊎_}
 use mathlib.Core.List.{List, []}
 use Prim.Native.Nat.{ℕ, _<_}
-use Rattle.graph.specs.Graph.{Exactly, Path}
+use lib.ListN.{length}
+use Rattle.graph.specs.Graph.{Exactly, IsPath}
 use Rattle.sheet.specs.declared.answer.Answer.{Answer}
 use Rattle.sheet.specs.Table.{Conditions, First, firstTrue}
 use Rattle.sheet.specs.Answers.{decided, answered}
@@ -17,7 +18,7 @@ abbrev pub emptyConditions : ℕ → List ℕ → Conditions
 emptyConditions n s = sized n s []
 
 abbrev pub emptyNumber : ℕ → List ℕ → ℕ
-emptyNumber n s = firstTrue (sizedTests n s [])
+emptyNumber n s = firstTrue (sizedTests n (length s) [])
 
 abbrev pub emptyAnswer : ℕ → List ℕ → Answer
 emptyAnswer n s = answered (emptyNumber n s) 0
@@ -31,7 +32,7 @@ abbrev pub pathCountConditions : ℕ → List ℕ → ℕ → ℕ → Conditions
 pathCountConditions n s i j = sized n s (vertexConditions n i j)
 
 abbrev pub pathCountNumber : ℕ → List ℕ → ℕ → ℕ → ℕ
-pathCountNumber n s i j = firstTrue (sizedTests n s (vertexTests n i j))
+pathCountNumber n s i j = firstTrue (sizedTests n (length s) (vertexTests n i j))
 
 abbrev pub pathCountAnswer : ℕ → List ℕ → ℕ → ℕ → Answer
 pathCountAnswer n s i j = answered (pathCountNumber n s i j) (countAt n s i j)
@@ -44,7 +45,7 @@ recountConditions n s = sized n s (rowConditions n s)
 -- t is s but for its counts, and each of these is the number of paths over the rows of s
 pub record Recounted (n : ℕ) (s t : List ℕ) : Type 0 where
   pub kept : t ≡ redone n (rowAt s) (countAt n t) s
-  pub counts : (i j : ℕ) → i < n → j < n → Exactly (Path n (edgeAt s) i j) (countAt n t i j)
+  pub counts : (i j : ℕ) → i < n → j < n → Exactly (IsPath n (edgeAt s) i j) (countAt n t i j)
 
 -- recount answers r and turns s into t
 pub record Recount (n : ℕ) (s : List ℕ) (r : Answer) (t : List ℕ) : Type 0 where

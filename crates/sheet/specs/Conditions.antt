@@ -9,12 +9,12 @@ use lib.Dec.{ltb, leb, eqb}
 use lib.ListN.{length}
 use Rattle.word.specs.Bit.{bit}
 use Rattle.graph.specs.Graph.{Cycle}
-use Rattle.sheet.specs.Layout.{size, rowAt, edgeAt}
+use Rattle.sheet.specs.Layout.{mostVertices, size, rowAt, edgeAt}
 use Rattle.sheet.specs.Table.{_gives_, Conditions, Tests}
 
 -- 1: n is not 1 to 64
-abbrev pub BadCount : ℕ → Type 0
-BadCount n = (n < 1) ⊎ (64 < n)
+abbrev pub BadVertices : ℕ → Type 0
+BadVertices n = (n < 1) ⊎ (mostVertices < n)
 
 -- 2: the sheet isn't n + n × n words
 abbrev pub BadLength : ℕ → List ℕ → Type 0
@@ -45,7 +45,8 @@ rowConditions n s = StrayRow n s gives 4 ∷ Cycle n (edgeAt s) gives 8 ∷ []
 
 -- what every call looks for first, and then the conditions l
 abbrev pub sized : ℕ → List ℕ → Conditions → Conditions
-sized n s l = BadCount n gives 1 ∷ BadLength n s gives 2 ∷ l
+sized n s l = BadVertices n gives 1 ∷ BadLength n s gives 2 ∷ l
 
-abbrev pub sizedTests : ℕ → List ℕ → Tests → Tests
-sizedTests n s l = (ltb n 1 || ltb 64 n) gives 1 ∷ not (eqb (length s) (size n)) gives 2 ∷ l
+-- the same of a sheet of len words
+abbrev pub sizedTests : ℕ → ℕ → Tests → Tests
+sizedTests n len l = (ltb n 1 || ltb mostVertices n) gives 1 ∷ not (eqb len (size n)) gives 2 ∷ l

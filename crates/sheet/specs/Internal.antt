@@ -1,11 +1,11 @@
 -- What the internal functions ask and promise. No public call's contract cites these. Definitions only. Assumes nothing.
 use mathlib.Core.Path.{_≡_}
 use mathlib.Core.Logic.{_⊎_}
-use mathlib.Core.Bool.{Bool, true, false, not, cond, _||_}
-use mathlib.Core.List.{List, [], _∷_}
+use mathlib.Core.Bool.{Bool, true, false, cond}
+use mathlib.Core.List.{List, []}
 use Prim.Native.Nat.{ℕ, _+_, _*_, _%_, _^_, _≤_, _<_}
 use lib.Bits.{bitAnd}
-use lib.Dec.{ltb, eqb}
+use lib.Dec.{eqb}
 use lib.ListN.{length, getD, set}
 use Rattle.sums.specs.Sum.{sum, delta}
 use Rattle.word.specs.Bit.{bit, hasBit, withoutBit, bitCount}
@@ -13,38 +13,31 @@ use Rattle.graph.specs.Graph.{Cycle}
 use Rattle.graph.specs.Count.{pathCount}
 use Rattle.graph.specs.Order.{Order}
 use Rattle.sheet.specs.declared.order.Peeling.{Peeling}
-use Rattle.sheet.specs.Table.{_gives_, firstTrue}
-use Rattle.sheet.specs.Layout.{size, rowAt, countAt, edgeAt, redone}
+use Rattle.sheet.specs.Table.{firstTrue}
+use Rattle.sheet.specs.Layout.{mostVertices, size, countsFrom, countPlace, rowAt, countAt, edgeAt, redone}
+use Rattle.sheet.specs.Conditions.{sizedTests}
 
--- ---- the shape of a sheet
-
--- 1, 2 or 0, of n vertices and len words
+-- the number that the checks of the shape give: 1, 2 or 0, of n vertices and len words
 abbrev pub shapeNumber : ℕ → ℕ → ℕ
-shapeNumber n len = firstTrue ((ltb n 1 || ltb 64 n) gives 1 ∷ not (eqb len (size n)) gives 2 ∷ [])
-
--- neither 1 nor 2: s is as long as a sheet of n vertices
-pub record Shape (n : ℕ) (s : List ℕ) : Type 0 where
-  pub low : 1 ≤ n
-  pub high : n ≤ 64
-  pub long : length s ≡ size n
+shapeNumber n len = firstTrue (sizedTests n len [])
 
 -- ---- places
 
 -- r is where the counts from i begin, with all of them within a sheet
 pub record RowBase (n i r : ℕ) : Type 0 where
-  pub is : r ≡ n + i * n
+  pub is : r ≡ countsFrom n i
   pub within : r + n ≤ size n
-  pub small : r + n ≤ 4160
+  pub small : r + n ≤ size mostVertices
 
 -- r is the place of the count from i to j, within a sheet
 pub record Place (n i j r : ℕ) : Type 0 where
-  pub is : r ≡ n + i * n + j
+  pub is : r ≡ countPlace n i j
   pub within : r < size n
-  pub small : r < 4160
+  pub small : r < size mostVertices
 
 -- where the count from i to itself stands
 abbrev pub diagonalAt : ℕ → ℕ → ℕ
-diagonalAt n i = n + i * n + i
+diagonalAt n i = countPlace n i i
 
 -- ---- rows of counts
 
@@ -79,7 +72,7 @@ RowHolds n s i = (j : ℕ) → j < n → countAt n s i j ≡ successorsSum n s i
 pub record RowFilled (n : ℕ) (s : List ℕ) (v : ℕ) (t : List ℕ) : Type 0 where
   pub long : length t ≡ length s
   pub filled : (j : ℕ) → j < n → countAt n t v j ≡ successorsSum n s v j
-  pub kept : (k : ℕ) → (k < n + v * n) ⊎ (n + v * n + n ≤ k) → getD t k 0 ≡ getD s k 0
+  pub kept : (k : ℕ) → (k < countsFrom n v) ⊎ (countsFrom n v + n ≤ k) → getD t k 0 ≡ getD s k 0
 
 -- s with each count worked out from its rows, modulo 2 ^ 64
 abbrev pub counted : ℕ → List ℕ → List ℕ

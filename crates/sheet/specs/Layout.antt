@@ -1,24 +1,43 @@
 -- Where what stands in a sheet of n vertices: n rows, then n times n counts (document 01: the sheet). Definitions only.
 -- Assumes nothing.
+use mathlib.Core.Path.{_≡_}
 use mathlib.Core.Bool.{cond}
 use mathlib.Core.List.{List, [], _∷_}
-use Prim.Native.Nat.{ℕ, zero, suc, _+_, _-_, _*_, _/_, _%_}
+use Prim.Native.Nat.{ℕ, zero, suc, _+_, _-_, _*_, _/_, _%_, _≤_}
 use lib.Dec.{ltb}
 use lib.ListN.{length, getD}
 use Rattle.sums.specs.Sum.{sum, delta}
 use Rattle.word.specs.Bit.{bit, bitCount}
 
+-- the most vertices that a sheet has
+abbrev pub mostVertices : ℕ
+mostVertices = 64
+
 -- how many words a sheet has
 abbrev pub size : ℕ → ℕ
 size n = n + n * n
+
+-- s has the shape of a sheet of n vertices
+pub record Shape (n : ℕ) (s : List ℕ) : Type 0 where
+  pub low : 1 ≤ n
+  pub high : n ≤ mostVertices
+  pub long : length s ≡ size n
 
 -- row i
 abbrev pub rowAt : List ℕ → ℕ → ℕ
 rowAt s i = getD s i 0
 
+-- where the counts from i begin: after the rows and the counts from the vertices before i
+abbrev pub countsFrom : ℕ → ℕ → ℕ
+countsFrom n i = n + i * n
+
+-- where the count from i to j stands
+abbrev pub countPlace : ℕ → ℕ → ℕ → ℕ
+countPlace n i j = countsFrom n i + j
+
 -- the count from i to j
 abbrev pub countAt : ℕ → List ℕ → ℕ → ℕ → ℕ
-countAt n s i j = getD s (n + i * n + j) 0
+countAt n s i j = getD s (countPlace n i j) 0
 
 -- 1 where an edge runs from i to j by the rows, and 0 where none does
 abbrev pub edgeAt : List ℕ → ℕ → ℕ → ℕ

@@ -1,8 +1,9 @@
 // The checks that calls share.
 ghost use mathlib.Core.Path.{_≡_};
+ghost use Rattle.sheet.specs.Layout.{Shape};
 ghost use Rattle.sheet.specs.Table.{Reflects};
 ghost use Rattle.sheet.specs.Conditions.{StrayRow};
-ghost use Rattle.sheet.specs.Internal.{shapeNumber, Shape};
+ghost use Rattle.sheet.specs.Internal.{shapeNumber};
 use crate::answer::Refusal;
 use crate::layout::Sheet;
 

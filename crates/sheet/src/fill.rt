@@ -2,9 +2,9 @@
 ghost use mathlib.Core.Path.{_≡_};
 ghost use Prim.Native.Nat.{ℕ};
 ghost use lib.ListN.{length};
-ghost use Rattle.sheet.specs.Layout.{emptySheet};
+ghost use Rattle.sheet.specs.Layout.{Shape, emptySheet};
 ghost use Rattle.sheet.specs.Fill.{puts, over};
-ghost use Rattle.sheet.specs.Internal.{Shape, diagonalAt};
+ghost use Rattle.sheet.specs.Internal.{diagonalAt};
 use crate::layout;
 
 // Every word 0.

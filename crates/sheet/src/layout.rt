@@ -1,7 +1,7 @@
 // Where what stands in a sheet, and the sheet's own type.
 ghost use mathlib.Core.Path.{_≡_};
 ghost use Prim.Native.Nat.{_≤_, _<_};
-ghost use Rattle.sheet.specs.Layout.{emptySheet};
+ghost use Rattle.sheet.specs.Layout.{mostVertices, emptySheet};
 ghost use Rattle.sheet.specs.Internal.{Place, RowBase};
 use crate::fill;
 
@@ -15,12 +15,12 @@ impl Sheet {
     pub const VERTICES: usize = 64;
     // The words of a sheet of so many vertices: 64 rows and 64 × 64 counts.
     pub const WORDS: usize = 4160;
-    // The most edges that a valid sheet has: 64 × 63 / 2.
+    // The most edges that a valid sheet has: 64 × 63 / 2. No call refuses by it.
     pub const EDGES: usize = 2016;
 
     // The empty sheet of 64 vertices.
     pub fn new() -> Sheet
-        ensures { λ r. ⌜ r .words ≡ emptySheet 64 ⌝ }
+        ensures words { λ r. ⌜ r .words ≡ emptySheet mostVertices ⌝ }
     {
         let mut words = [0u64; Sheet::WORDS];
         fill::fill_empty(Sheet::VERTICES, &mut words);

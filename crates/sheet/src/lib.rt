@@ -1,10 +1,11 @@
 // Sheets of path counts: the adjacency rows of an acyclic graph and the number of paths between every two vertices, in the
 // words of a lent slice. The calls of this file answer every n, every length and all words.
 ghost use mathlib.Core.Path.{_≡_};
+ghost use Rattle.sheet.specs.Layout.{Shape};
 ghost use Rattle.sheet.specs.Table.{Reflects};
 ghost use Rattle.sheet.specs.Valid.{Valid};
 ghost use Rattle.sheet.specs.Calls.{emptyAnswer, emptyAfter, pathCountAnswer, Recount, Validate};
-ghost use Rattle.sheet.specs.Internal.{Shape, counted, RowsBelow, Ordered};
+ghost use Rattle.sheet.specs.Internal.{counted, RowsBelow, Ordered};
 
 mod answer;
 mod checks;
@@ -32,7 +33,7 @@ pub fn empty(n: usize, sheet: &mut [u64]) -> Answer
 
 // The count from i to j as it stands in the sheet; on a valid sheet, the number of paths. Refused by 1, 2, 3.
 pub fn path_count(n: usize, sheet: &[u64], i: usize, j: usize) -> Answer
-    ensures { λ r. ⌜ r ≡ pathCountAnswer n (now (sheet .entry)) i j ⌝ }
+    ensures answer { λ r. ⌜ r ≡ pathCountAnswer n (now (sheet .entry)) i j ⌝ }
 {
     let number = checks::shape_number(n, sheet.len());
     if number != 0 {
@@ -63,7 +64,7 @@ fn fill_counts(n: usize, sheet: &mut [u64], order: &[usize; 64])
 // The counts worked out afresh from the rows (document 01: the survey). Refused by 1, 2, 4, 8, before a word is written. The
 // value is the number of set bits in all rows.
 pub fn recount(n: usize, sheet: &mut [u64]) -> Answer
-    ensures { λ r. ⌜ Recount n (now (sheet .entry)) r (now (sheet .exit)) ⌝ }
+    ensures recounted { λ r. ⌜ Recount n (now (sheet .entry)) r (now (sheet .exit)) ⌝ }
 {
     let number = checks::shape_number(n, sheet.len());
     if number != 0 {
@@ -80,8 +81,8 @@ pub fn recount(n: usize, sheet: &mut [u64]) -> Answer
     Answer::accepted(rows::count_edges(n, sheet))
 }
 
-// Internal: whether a sheet of the right shape is valid. The counts are those of paths exactly if there is no cycle and they
-// satisfy the recurrence.
+// Internal: whether a sheet of the right shape is valid. Where there is no cycle, the counts are the numbers of paths exactly
+// if they satisfy the recurrence.
 pub fn is_valid(n: usize, sheet: &[u64]) -> bool
     requires { ⌜ Shape n (now sheet) ⌝ }
     ensures { λ r. ⌜ Reflects r (Valid n (now (sheet .entry))) ⌝ }
@@ -98,7 +99,7 @@ pub fn is_valid(n: usize, sheet: &[u64]) -> bool
 
 // Whether the sheet is valid, whoever wrote it (document 01: the test of a stored sheet). Refused by 1, 2. The value is 1 or 0.
 pub fn validate(n: usize, sheet: &[u64]) -> Answer
-    ensures { λ r. ⌜ Validate n (now (sheet .entry)) r ⌝ }
+    ensures tested { λ r. ⌜ Validate n (now (sheet .entry)) r ⌝ }
 {
     let number = checks::shape_number(n, sheet.len());
     if number != 0 {

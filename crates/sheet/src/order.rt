@@ -4,7 +4,8 @@ ghost use Prim.Native.Nat.{_<_};
 ghost use mathlib.Core.Path.{_≡_};
 ghost use lib.ListN.{length};
 ghost use Rattle.word.specs.Bit.{bit};
-ghost use Rattle.sheet.specs.Internal.{Shape, RowsBelow, Peeled, lookedAt, enteredAt, Looked, OrderFound};
+ghost use Rattle.sheet.specs.Layout.{Shape};
+ghost use Rattle.sheet.specs.Internal.{RowsBelow, Peeled, lookedAt, enteredAt, Looked, OrderFound};
 
 // The vertices left, as a mask, and how many have been taken away.
 pub struct Peeling {

@@ -3,9 +3,9 @@ ghost use mathlib.Core.Path.{_≡_};
 ghost use Prim.Native.Nat.{ℕ, _+_, _≤_, _<_, _^_};
 ghost use lib.ListN.{length, getD};
 ghost use Rattle.sheet.specs.Table.{Reflects};
-ghost use Rattle.sheet.specs.Layout.{rowAt, setBits};
+ghost use Rattle.sheet.specs.Layout.{Shape, rowAt, setBits};
 ghost use Rattle.sheet.specs.Fill.{over};
-ghost use Rattle.sheet.specs.Internal.{Shape, RowAdded, RowsSummed, SuccessorsSummed, SameRow, RowHolds, RowFilled, RowsBelow};
+ghost use Rattle.sheet.specs.Internal.{RowAdded, RowsSummed, SuccessorsSummed, SameRow, RowHolds, RowFilled, RowsBelow};
 use crate::layout;
 
 // The n words from base on, added to the first n of t, modulo 2^64.

@@ -7,14 +7,23 @@ use Rattle.sheet.proofs.RecountLaws.{recount-refused, recount-stray, re
 use Rattle.sheet.proofs.recount.Statement.{statement}
 use Rattle.sheet.proofs.recount.Tie as tie
 
+returns : tie.Need-returns
+returns c = search recount-refused
+
+returns-2 : tie.Need-returns-2
+returns-2 c = search recount-stray
+
+returns-3 : tie.Need-returns-3
+returns-3 c = search (recount-cycle, not-true)
+
+returns-4 : tie.Need-returns-4
+returns-4 c = search (recount-accepted, not-false)
+
 shape-number-requires : tie.Need-shape-number-requires
 shape-number-requires c κs = search needs
 
 refused-requires : tie.Need-refused-requires
 refused-requires c κs = search needs
-
-returns : tie.Need-returns
-returns c = search recount-refused
 
 has-stray-row-requires : tie.Need-has-stray-row-requires
 has-stray-row-requires c κs = search shape-of
@@ -25,9 +34,6 @@ refused-requires-2 c κs = search needs
 same-length : tie.Need-same-length
 same-length c = search needs
 
-returns-2 : tie.Need-returns-2
-returns-2 c = search recount-stray
-
 find-order-requires : tie.Need-find-order-requires
 find-order-requires c κs = search (shape-of, rows-below)
 
@@ -36,9 +42,6 @@ refused-requires-3 c κs = search needs
 
 same-length-2 : tie.Need-same-length-2
 same-length-2 c = search needs
-
-returns-3 : tie.Need-returns-3
-returns-3 c = search (recount-cycle, not-true)
 
 fill-counts-requires : tie.Need-fill-counts-requires
 fill-counts-requires c κs = (search shape-of, search rows-below, c .before .before .before .find-order .ensures .ordered (not-false _ (c .before .before .if3 .left)))
@@ -51,9 +54,6 @@ accepted-requires c κs = search needs
 
 same-length-3 : tie.Need-same-length-3
 same-length-3 c = search needs
-
-returns-4 : tie.Need-returns-4
-returns-4 c = search (recount-accepted, not-false)
 
 pub recount-spec : {M : Type 1} → statement M
 recount-spec =
