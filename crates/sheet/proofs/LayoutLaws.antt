@@ -127,3 +127,14 @@ module _ (n : ℕ) (r : ℕ → ℕ) (c : ℕ → ℕ → ℕ) (s : List ℕ) wh
               | no q ↦ hk k (omega arith) ∙ sym (word-rest k (omega arith))
             ]
           ]
+
+-- two sheets with the same rows and the same counts are the same
+pub sheet-ext : (n : ℕ) (s t : List ℕ) → length s ≡ size n → length t ≡ size n
+    → ((i : ℕ) → i < n → rowAt s i ≡ rowAt t i) → ((i j : ℕ) → i < n → j < n → countAt n s i j ≡ countAt n t i j) → s ≡ t
+sheet-ext n s t es et hr hc = same s es (λ i hi. refl) (λ i j hi hj. refl) ∙ sym (same t et (λ i hi. sym (hr i hi)) (λ i j hi hj. sym (hc i j hi hj)))
+  where
+    same : (u : List ℕ) → length u ≡ size n → ((i : ℕ) → i < n → rowAt u i ≡ rowAt s i)
+        → ((i j : ℕ) → i < n → j < n → countAt n u i j ≡ countAt n s i j) → u ≡ redone n (rowAt s) (countAt n s) s
+    same u eu hr hc =
+        redone-ext n (rowAt s) (countAt n s) s u (eu ∙ sym es) hr hc
+        (λ k q. List·getD-eq-default u 0 (omega arith) ∙ sym (List·getD-eq-default s 0 (omega arith)))

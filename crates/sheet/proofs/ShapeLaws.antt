@@ -43,15 +43,15 @@ module _ (n len : ℕ) where
   some : 1 ≤ n → n ≤ 64 → ¬ (BadVertices n)
   some p q c = elim c [ inl l ↦ omega arith | inr l ↦ omega arith ]
 
-  pub shape-long : 1 ≤ n → n ≤ 64 → (len ≡ size n → ⊥) → 2 ≡ shapeNumber n len
-  shape-long p q d =
+  pub shape-long : (m : ℕ) → 1 ≤ n → n ≤ 64 → m ≡ size n → (len ≡ m → ⊥) → 2 ≡ shapeNumber n len
+  shape-long m p q em d =
       sym (first-next _ _ (reflects-false (reflects-or (reflects-lt n 1) (reflects-lt 64 n)) .1 (some p q))
-      ∙ first-here _ _ (reflects-not (reflects-eq len (size n)) .shows d))
+      ∙ first-here _ _ (reflects-not (reflects-eq len (size n)) .shows (λ e. d (e ∙ sym em))))
 
-  pub shape-good : 1 ≤ n → n ≤ 64 → len ≡ size n → 0 ≡ shapeNumber n len
-  shape-good p q e =
+  pub shape-good : (m : ℕ) → 1 ≤ n → n ≤ 64 → m ≡ size n → len ≡ m → 0 ≡ shapeNumber n len
+  shape-good m p q em e =
       sym (first-next _ _ (reflects-false (reflects-or (reflects-lt n 1) (reflects-lt 64 n)) .1 (some p q))
-      ∙ first-next _ _ (reflects-false (reflects-not (reflects-eq len (size n))) .1 (λ d. d e))
+      ∙ first-next _ _ (reflects-false (reflects-not (reflects-eq len (size n))) .1 (λ d. d (e ∙ em)))
       ∙ first-none)
 
 -- ---- what the number tells, with further conditions and tests after the two

@@ -1,12 +1,11 @@
 -- A sheet without a cycle whose counts satisfy the recurrence modulo 2 ^ 64 is valid, and a valid sheet's counts satisfy it. A valid
 -- sheet is known by its rows. Assumes nothing.
-use mathlib.Core.Path.{_≡_, refl, sym, ap, subst, _∙_}
+use mathlib.Core.Path.{_≡_, sym, ap, subst, _∙_}
 use mathlib.Core.Logic.{_↔_}
 use mathlib.Core.List.{List}
 use Prim.Native.Nat.{ℕ, _+_, _*_, _%_, _^_, _≤_, _<_}
 use native.Mathlib.Nat.{mod-mod, mod-lt, mod-eq-of-lt}
 use native.Mathlib.Omega.{arith}
-use lib.ListN.{length, List·getD-eq-default}
 use lib.Pow.{pow-pos}
 use Rattle.sums.specs.Sum.{delta}
 use Rattle.sums.proofs.SumLaws.{sum-cong}
@@ -18,11 +17,11 @@ use Rattle.graph.proofs.Lists.{exactly-only}
 use Rattle.graph.proofs.Recurrence.{pathCount-recurrence, pathCount-cong, recurrence-mod-only}
 use Rattle.graph.proofs.Counting.{pathCount-exact}
 use Rattle.graph.proofs.Bound.{paths-below}
-use Rattle.sheet.specs.Layout.{Shape, size, rowAt, countAt, edgeAt, redone}
+use Rattle.sheet.specs.Layout.{Shape, rowAt, countAt, edgeAt}
 use Rattle.sheet.specs.Conditions.{StrayRow}
 use Rattle.sheet.specs.Valid.{Valid}
 use Rattle.sheet.specs.Internal.{successorsSum, RowHolds}
-use Rattle.sheet.proofs.LayoutLaws.{redone-ext}
+use Rattle.sheet.proofs.LayoutLaws.{sheet-ext}
 
 pub edge-le : (s : List ℕ) (i j : ℕ) → edgeAt s i j ≤ 1
 edge-le s i j = omega (arith, bit-lt (rowAt s i) j)
@@ -69,7 +68,9 @@ valid-iff-holds n s shape rows acyclic = (
 
 -- two valid sheets with the same rows are the same, word for word
 pub valid-only : (n : ℕ) (s t : List ℕ) → Valid n s → Valid n t → ((i : ℕ) → i < n → rowAt s i ≡ rowAt t i) → s ≡ t
-valid-only n s t v v′ h = redone-same s (v .shape .long) (λ i hi. refl) (λ i j hi hj. refl) ∙ sym (redone-same t (v′ .shape .long) (λ i hi. sym (h i hi)) (λ i j hi hj. valid-count n t v′ i j hi hj ∙ sym (pathCount-cong n (edgeAt s) (edgeAt t) (λ a b ha hb. ap (λ x. bit x b) (h a ha)) i j hi) ∙ sym (valid-count n s v i j hi hj)))
-  where
-    redone-same : (u : List ℕ) → length u ≡ size n → ((i : ℕ) → i < n → rowAt u i ≡ rowAt s i) → ((i j : ℕ) → i < n → j < n → countAt n u i j ≡ countAt n s i j) → u ≡ redone n (rowAt s) (countAt n s) s
-    redone-same u e hr hc = redone-ext n (rowAt s) (countAt n s) s u (e ∙ sym (v .shape .long)) hr hc (λ k q. List·getD-eq-default u 0 (omega arith) ∙ sym (List·getD-eq-default s 0 (omega (arith, v .shape .long))))
+valid-only n s t v v′ h =
+    sheet-ext n s t (v .shape .long) (v′ .shape .long) h
+    (λ i j hi hj.
+    valid-count n s v i j hi hj
+    ∙ pathCount-cong n (edgeAt s) (edgeAt t) (λ a b ha hb. ap (λ x. bit x b) (h a ha)) i j hi
+    ∙ sym (valid-count n t v′ i j hi hj))

@@ -5,6 +5,7 @@ ghost use Rattle.sheet.specs.Table.{Reflects};
 ghost use Rattle.sheet.specs.Conditions.{StrayRow};
 ghost use Rattle.sheet.specs.Internal.{shapeNumber};
 use crate::answer::Refusal;
+use crate::layout;
 use crate::layout::Sheet;
 
 // Internal: 1 if n is not 1 to 64, else 2 if a sheet of n vertices has not so many words, else 0.
@@ -17,7 +18,7 @@ pub fn shape_number(n: usize, words: usize) -> u64
     if Sheet::VERTICES < n {
         return Refusal::VERTICES;
     }
-    if words != n + n * n {
+    if words != layout::word_count(n) {
         return Refusal::LENGTH;
     }
     0

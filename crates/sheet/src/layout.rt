@@ -1,7 +1,7 @@
 // Where what stands in a sheet, and the sheet's own type.
 ghost use mathlib.Core.Path.{_≡_};
 ghost use Prim.Native.Nat.{_≤_, _<_};
-ghost use Rattle.sheet.specs.Layout.{mostVertices, emptySheet};
+ghost use Rattle.sheet.specs.Layout.{mostVertices, size, emptySheet};
 ghost use Rattle.sheet.specs.Internal.{Place, RowBase};
 use crate::fill;
 
@@ -26,6 +26,14 @@ impl Sheet {
         fill::fill_empty(Sheet::VERTICES, &mut words);
         Sheet { words }
     }
+}
+
+// Internal: how many words a sheet of n vertices has.
+pub fn word_count(n: usize) -> usize
+    requires { ⌜ n ≤ 64 ⌝ }
+    ensures { λ r. ⌜ r ≡ size n ⌝ }
+{
+    n + n * n
 }
 
 // Internal: where the counts from vertex i begin.

@@ -50,7 +50,7 @@ pub fn path_count(n: usize, sheet: &[u64], i: usize, j: usize) -> Answer
 }
 
 // The counts, in the order given: each row from those of its successors, which are earlier.
-fn fill_counts(n: usize, sheet: &mut [u64], order: &[usize; 64])
+fn fill_counts(n: usize, sheet: &mut [u64], order: &[usize; Sheet::VERTICES])
     requires { ⌜ (Shape n (now sheet)) × (RowsBelow n (now sheet)) × (Ordered n (now sheet) (now order)) ⌝ }
     ensures { λ r. ⌜ now (sheet .exit) ≡ counted n (now (sheet .entry)) ⌝ }
 {
@@ -73,7 +73,7 @@ pub fn recount(n: usize, sheet: &mut [u64]) -> Answer
     if checks::has_stray_row(n, sheet) {
         return Answer::refused(Refusal::STRAY_BIT);
     }
-    let mut order = [0usize; 64];
+    let mut order = [0usize; Sheet::VERTICES];
     if !order::find_order(n, sheet, &mut order) {
         return Answer::refused(Refusal::CYCLE);
     }
@@ -90,7 +90,7 @@ pub fn is_valid(n: usize, sheet: &[u64]) -> bool
     if checks::has_stray_row(n, sheet) {
         return false;
     }
-    let mut found = [0usize; 64];
+    let mut found = [0usize; Sheet::VERTICES];
     if !order::find_order(n, sheet, &mut found) {
         return false;
     }

@@ -6,6 +6,7 @@ ghost use lib.ListN.{length};
 ghost use Rattle.word.specs.Bit.{bit};
 ghost use Rattle.sheet.specs.Layout.{Shape};
 ghost use Rattle.sheet.specs.Internal.{RowsBelow, Peeled, lookedAt, enteredAt, Looked, OrderFound};
+use crate::layout::Sheet;
 
 // The vertices left, as a mask, and how many have been taken away.
 pub struct Peeling {
@@ -14,7 +15,7 @@ pub struct Peeling {
 }
 
 // Vertex i with its row is looked at: it is taken away if it is left and no edge leads from it to what is left.
-fn look_at(p: Peeling, order: &mut [usize; 64], i: usize, row: u64) -> Peeling
+fn look_at(p: Peeling, order: &mut [usize; Sheet::VERTICES], i: usize, row: u64) -> Peeling
     requires { ⌜ (i < 64) × (bit (p .left) i ≡ 1 → p .count < 64) ⌝ }
     ensures state { λ r. ⌜ r ≡ lookedAt p i row ⌝ }
     ensures order { λ r. ⌜ now (order .exit) ≡ enteredAt p (now (order .entry)) i row ⌝ }
@@ -35,7 +36,7 @@ fn look_at(p: Peeling, order: &mut [usize; 64], i: usize, row: u64) -> Peeling
 }
 
 // Every vertex is looked at once, from the highest down.
-fn look_round(n: usize, sheet: &[u64], p: Peeling, order: &mut [usize; 64]) -> Peeling
+fn look_round(n: usize, sheet: &[u64], p: Peeling, order: &mut [usize; Sheet::VERTICES]) -> Peeling
     requires { ⌜ (Shape n (now sheet)) × (RowsBelow n (now sheet)) × (Peeled n (now sheet) p (now order)) ⌝ }
     ensures { λ r. ⌜ Looked n (now (sheet .entry)) p 0 r (now (order .exit)) ⌝ }
 {
@@ -49,7 +50,7 @@ fn look_round(n: usize, sheet: &[u64], p: Peeling, order: &mut [usize; 64]) -> P
 }
 
 // Internal: whether there is no cycle; then order holds every vertex, after those to which its edges lead.
-pub fn find_order(n: usize, sheet: &[u64], order: &mut [usize; 64]) -> bool
+pub fn find_order(n: usize, sheet: &[u64], order: &mut [usize; Sheet::VERTICES]) -> bool
     requires { ⌜ (Shape n (now sheet)) × (RowsBelow n (now sheet)) × (length (now order) ≡ 64) ⌝ }
     ensures { λ r. ⌜ OrderFound n (now (sheet .entry)) r (now (order .exit)) ⌝ }
 {

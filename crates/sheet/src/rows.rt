@@ -7,9 +7,10 @@ ghost use Rattle.sheet.specs.Layout.{Shape, rowAt, setBits};
 ghost use Rattle.sheet.specs.Fill.{over};
 ghost use Rattle.sheet.specs.Internal.{RowAdded, RowsSummed, SuccessorsSummed, SameRow, RowHolds, RowFilled, RowsBelow};
 use crate::layout;
+use crate::layout::Sheet;
 
 // The n words from base on, added to the first n of t, modulo 2^64.
-fn add_row(n: usize, sheet: &[u64], base: usize, t: &mut [u64; 64])
+fn add_row(n: usize, sheet: &[u64], base: usize, t: &mut [u64; Sheet::VERTICES])
     requires { ⌜ (n ≤ 64) × (base + n ≤ length (now sheet)) ⌝ }
     ensures { λ r. ⌜ RowAdded n (now (sheet .entry)) base (now (t .entry)) (now (t .exit)) ⌝ }
 {
@@ -21,11 +22,11 @@ fn add_row(n: usize, sheet: &[u64], base: usize, t: &mut [u64; 64])
 }
 
 // Internal: for each j below n, the sum of the counts to j from the vertices of the mask, modulo 2^64.
-pub fn sum_rows(n: usize, sheet: &[u64], mask: u64) -> [u64; 64]
+pub fn sum_rows(n: usize, sheet: &[u64], mask: u64) -> [u64; Sheet::VERTICES]
     requires { ⌜ (Shape n (now sheet)) × (mask < 2 ^ n) ⌝ }
     ensures { λ r. ⌜ RowsSummed n (now (sheet .entry)) mask r ⌝ }
 {
-    let mut t = [0u64; 64];
+    let mut t = [0u64; Sheet::VERTICES];
     let mut rest = mask;
     while rest != 0 {
         let b = word::lowest_bit(rest);
@@ -37,7 +38,7 @@ pub fn sum_rows(n: usize, sheet: &[u64], mask: u64) -> [u64; 64]
 }
 
 // The counts from i as the recurrence gives them: one to i itself, and those from its successors added up, modulo 2^64.
-fn sum_successors(n: usize, sheet: &[u64], i: usize) -> [u64; 64]
+fn sum_successors(n: usize, sheet: &[u64], i: usize) -> [u64; Sheet::VERTICES]
     requires { ⌜ (Shape n (now sheet)) × (i < n) × (rowAt (now sheet) i < 2 ^ n) ⌝ }
     ensures { λ r. ⌜ SuccessorsSummed n (now (sheet .entry)) i r ⌝ }
 {
@@ -47,7 +48,7 @@ fn sum_successors(n: usize, sheet: &[u64], i: usize) -> [u64; 64]
 }
 
 // Whether the n words from base on are those of t.
-fn same_row(n: usize, sheet: &[u64], base: usize, t: &[u64; 64]) -> bool
+fn same_row(n: usize, sheet: &[u64], base: usize, t: &[u64; Sheet::VERTICES]) -> bool
     requires { ⌜ (n ≤ 64) × (base + n ≤ length (now sheet)) ⌝ }
     ensures { λ r. ⌜ Reflects r (SameRow n (now (sheet .entry)) base (now (t .entry))) ⌝ }
 {
@@ -85,7 +86,7 @@ pub fn rows_hold(n: usize, sheet: &[u64]) -> bool
 }
 
 // The first n words of t, written from base on.
-fn put_row(n: usize, sheet: &mut [u64], base: usize, t: &[u64; 64])
+fn put_row(n: usize, sheet: &mut [u64], base: usize, t: &[u64; Sheet::VERTICES])
     requires { ⌜ (n ≤ 64) × (base + n ≤ length (now sheet)) ⌝ }
     ensures { λ r. ⌜ now (sheet .exit) ≡ over (now (sheet .entry)) base (λ (j : ℕ). getD (now (t .entry)) j 0) n ⌝ }
 {
