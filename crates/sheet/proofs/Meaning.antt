@@ -134,7 +134,7 @@ sound n s (inr (a, inr (b, inr (c, inr (d, e))))) = record { shape = shape-not n
 
 module _ (n : ℕ) (s t : List ℕ) (h : Recounted n s t) (long : length s ≡ size n) where
   recounted-long : length t ≡ length s
-  recounted-long = ap length (h .kept) ∙ length-redone n (rowAt s) (countAt n t) s
+  recounted-long = ap length (h .kept) ∙ length-redone n _ _ s
 
   recounted-row : (i : ℕ) → i < n → rowAt t i ≡ rowAt s i
   recounted-row i hi = ap (λ (l : List ℕ). rowAt l i) (h .kept) ∙ row-redone n (rowAt s) (countAt n t) s long i hi
