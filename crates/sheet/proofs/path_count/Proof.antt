@@ -12,6 +12,9 @@ shape-number-requires c κs = search needs
 refused-requires : tie.Need-refused-requires
 refused-requires c κs = search needs
 
+count-place-requires : tie.Need-count-place-requires
+count-place-requires c κs = search (shape-high, arith)
+
 returns : tie.Need-returns
 returns c = search path-count-refused
 
@@ -26,9 +29,6 @@ refused-requires-3 c κs = search needs
 
 returns-3 : tie.Need-returns-3
 returns-3 c = search path-count-to
-
-count-place-requires : tie.Need-count-place-requires
-count-place-requires c κs = search (shape-high, arith)
 
 mul-accepted : tie.Need-mul-accepted
 mul-accepted c = search needs
