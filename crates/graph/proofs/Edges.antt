@@ -1,19 +1,14 @@
 -- How many edges a graph without a cycle has, if at most one runs between two vertices: no more than pairs of vertices.
 -- Assumes nothing.
 use mathlib.Core.Path.{_≡_, sym, ap, ap₂, _∙_}
-use Prim.Native.Nat.{ℕ, zero, suc, _+_, _*_, _≤_, _<_}
-use native.Mathlib.Nat.{mul-one, zero-mul, suc-mul}
+use Prim.Native.Nat.{ℕ, _+_, _*_, _≤_, _<_}
+use native.Mathlib.Nat.{mul-one}
 use native.Mathlib.Decide.{ℕ-discrete, decLt}
 use native.Mathlib.Omega.{arith}
 use Rattle.sums.specs.Sum.{sum, delta}
-use Rattle.sums.proofs.SumLaws.{delta-refl, delta-diff, sum-cong, sum-add, sum-swap, sum-mono, sum-pick′}
+use Rattle.sums.proofs.SumLaws.{delta-refl, delta-diff, sum-cong, sum-add, sum-swap, sum-mono, sum-const, sum-pick′}
 use Rattle.graph.specs.Graph.{Acyclic}
 use Rattle.graph.proofs.Walks.{reach-refl, reach-step, cycle-of}
-
-sum-const : (n c : ℕ) → sum n (λ _. c) ≡ n * c
-unfolding sum
-sum-const zero c = sym (zero-mul c)
-sum-const (suc n) c = ap (λ (x : ℕ). x + c) (sum-const n c) ∙ sym (suc-mul n c)
 
 module _ (n : ℕ) (w : ℕ → ℕ → ℕ) (acyclic : Acyclic n w) (one : (i j : ℕ) → i < n → j < n → w i j ≤ 1) where
   -- no edge from a vertex to itself, and none there and back between two

@@ -5,14 +5,14 @@ use Prim.Native.Nat.{ℕ, _+_, _*_, _<_}
 use native.Mathlib.Nat.{zero-add}
 use native.Mathlib.Decide.{ℕ-discrete}
 use native.Mathlib.Omega.{arith}
-use lib.ListN.{length, getD, List·getD-eq-default}
+use lib.ListN.{length, getD, replicate, length-replicate, List·getD-eq-default}
 use Rattle.sums.specs.Sum.{delta}
 use Rattle.sums.proofs.SumLaws.{delta-refl, delta-diff}
-use Rattle.sheet.specs.Layout.{Shape, size, countAt, build, emptySheet}
+use Rattle.sheet.specs.Layout.{Shape, size, countAt, emptySheet}
 use Rattle.sheet.specs.Fill.{puts, over}
 use Rattle.sheet.specs.Internal.{diagonalAt}
 use Rattle.sheet.proofs.FillLaws.{length-puts, puts-in, puts-out, over-in}
-use Rattle.sheet.proofs.LayoutLaws.{place-lt, place-row, place-column, length-build, redone-ext}
+use Rattle.sheet.proofs.LayoutLaws.{place-lt, place-row, place-column, redone-ext}
 
 module _ (n : ℕ) (s w t : List ℕ) (h : Shape n s) (ew : w ≡ over s 0 (λ (k : ℕ). 0) (length s)) (et : t ≡ puts w (diagonalAt n) (λ (k : ℕ). 1) n) where
   cleared-long : length w ≡ length s
@@ -45,6 +45,6 @@ module _ (n : ℕ) (s w t : List ℕ) (h : Shape n s) (ew : w ≡ over s 0 (λ (
   pub empty-filled : t ≡ emptySheet n
   unfolding emptySheet
   empty-filled =
-      redone-ext n (λ i. 0) delta (build (size n) (λ k. 0)) t (long ∙ sym (length-build (size n) (λ k. 0)))
+      redone-ext n (λ i. 0) delta (replicate (size n) 0) t (long ∙ sym (length-replicate {A = ℕ} (size n) 0))
       (λ i q. off i (omega arith) (λ j r e. omega arith)) count
-      (λ k q. List·getD-eq-default t 0 (omega (arith, long)) ∙ sym (List·getD-eq-default (build (size n) (λ k. 0)) 0 (omega (arith, length-build (size n) (λ k. 0)))))
+      (λ k q. List·getD-eq-default t 0 (omega (arith, long)) ∙ sym (List·getD-eq-default (replicate (size n) 0) 0 (omega (arith, length-replicate {A = ℕ} (size n) 0))))

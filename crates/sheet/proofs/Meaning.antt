@@ -6,7 +6,7 @@ use Prim.Native.Nat.{ℕ, _+_, _-_, _*_, _%_, _^_, _≤_, _<_}
 use native.Mathlib.Nat.{mod-eq-of-lt, zero-mul, mul-le-mul-right}
 use native.Mathlib.Decide.{ℕ-discrete}
 use native.Mathlib.Omega.{arith}
-use lib.ListN.{length, set}
+use lib.ListN.{length, set, replicate, length-replicate}
 use lib.Pow.{pow-pos}
 use lib.Seq.{getD-set-same, getD-set-other}
 use Rattle.sums.specs.Sum.{sum, delta}
@@ -22,7 +22,7 @@ use Rattle.graph.proofs.Walks.{edgeless-acyclic, path-cong, cycle-cong}
 use Rattle.sheet.specs.declared.answer.Answer.{Answer}
 use Rattle.sheet.specs.Table.{_gives_, First}
 use Rattle.sheet.specs.Answers.{decided}
-use Rattle.sheet.specs.Layout.{Shape, size, rowAt, countAt, edgeAt, build, emptySheet, setBits}
+use Rattle.sheet.specs.Layout.{Shape, size, rowAt, countAt, edgeAt, emptySheet, setBits}
 use Rattle.sheet.specs.Conditions.{BadVertices, BadLength, StrayRow, vertexConditions, rowConditions}
 use Rattle.sheet.specs.Valid.{Valid}
 use Rattle.sheet.specs.Calls.{emptyAnswer, emptyAfter, pathCountAnswer, recountConditions, Recounted, Recount, validateConditions, Validate}
@@ -31,7 +31,7 @@ use Rattle.sheet.proofs.TableLaws.{first-only, first-cong}
 use Rattle.sheet.proofs.ShapeLaws.{accepted-shape, shape-not, shape-passed}
 use Rattle.sheet.proofs.StrayLaws.{rows-iff}
 use Rattle.sheet.proofs.AnswerLaws.{answer-ext}
-use Rattle.sheet.proofs.LayoutLaws.{place-lt, length-build, length-redone, row-redone, count-redone}
+use Rattle.sheet.proofs.LayoutLaws.{place-lt, length-redone, row-redone, count-redone}
 use Rattle.sheet.proofs.ValidLaws.{edge-le, valid-iff-holds, valid-only}
 use Rattle.sheet.proofs.RowLaws.{setBits-cong}
 use Rattle.sheet.proofs.Refusals.{empty-table, path-count-table}
@@ -41,15 +41,15 @@ use Rattle.sheet.proofs.Refusals.{empty-table, path-count-table}
 module _ (n : ℕ) where
   empty-long : length (emptySheet n) ≡ size n
   unfolding emptySheet
-  empty-long = length-redone n (λ i. 0) delta (build (size n) (λ k. 0)) ∙ length-build (size n) (λ k. 0)
+  empty-long = length-redone n (λ i. 0) delta (replicate (size n) 0) ∙ length-replicate {A = ℕ} (size n) 0
 
   empty-row : (i : ℕ) → i < n → rowAt (emptySheet n) i ≡ 0
   unfolding emptySheet
-  empty-row i hi = row-redone n (λ i. 0) delta (build (size n) (λ k. 0)) (length-build (size n) (λ k. 0)) i hi
+  empty-row i hi = row-redone n (λ i. 0) delta (replicate (size n) 0) (length-replicate {A = ℕ} (size n) 0) i hi
 
   empty-count : (i j : ℕ) → i < n → j < n → countAt n (emptySheet n) i j ≡ delta i j
   unfolding emptySheet
-  empty-count i j hi hj = count-redone n (λ i. 0) delta (build (size n) (λ k. 0)) (length-build (size n) (λ k. 0)) i j hi hj
+  empty-count i j hi hj = count-redone n (λ i. 0) delta (replicate (size n) 0) (length-replicate {A = ℕ} (size n) 0) i j hi hj
 
   -- the empty sheet has no edge
   pub empty-edge : (i j : ℕ) → i < n → j < n → edgeAt (emptySheet n) i j ≡ 0

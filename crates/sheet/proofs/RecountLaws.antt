@@ -21,12 +21,12 @@ use Rattle.sheet.specs.Table.{Reflects, First}
 use Rattle.sheet.specs.Conditions.{StrayRow, rowConditions}
 use Rattle.sheet.specs.Layout.{Shape, rowAt, countAt, edgeAt, setBits}
 use Rattle.sheet.specs.Internal.{successorsSum, RowFilled, RowsBelow, vertexAt, Ordered, OrderFound, shapeNumber, counted}
-use Rattle.sheet.proofs.TableLaws.{reflects-false}
-use Rattle.sheet.proofs.ValidLaws.{paths-exactly, paths-fit}
-use Rattle.sheet.proofs.LayoutLaws.{row-within, place-apart, redone-ext, length-redone, row-redone, count-redone, rest-redone}
 use Rattle.sheet.specs.declared.answer.Answer.{Answer}
 use Rattle.sheet.specs.Answers.{answer}
 use Rattle.sheet.specs.Calls.{recountConditions, Recounted, Recount}
+use Rattle.sheet.proofs.TableLaws.{reflects-false}
+use Rattle.sheet.proofs.ValidLaws.{paths-exactly, paths-fit}
+use Rattle.sheet.proofs.LayoutLaws.{row-within, place-apart, redone-ext, length-redone, row-redone, count-redone, rest-redone}
 use Rattle.sheet.proofs.ShapeLaws.{shape-of, shape-refused, shape-passed}
 use Rattle.sheet.proofs.AnswerLaws.{decided-old}
 use Rattle.sheet.proofs.OrderLaws.{ordered-acyclic}

@@ -16,6 +16,7 @@ use lib.Seq.{getD-set-same, getD-set-other}
 use Rattle.sums.specs.Sum.{sum}
 use Rattle.sums.specs.Modulo.{Congruent}
 use Rattle.sums.proofs.SumLaws.{delta-refl, delta-diff, sum-all-zero}
+use Rattle.sums.proofs.SumLaws.{sum-cong}
 use Rattle.word.specs.Bit.{bit, withoutBit, bitCount, Lowest}
 use Rattle.word.proofs.BitLaws.{bit-zero, bit-above-zero, clear-le}
 use Rattle.word.proofs.CountLaws.{sum-clear, bitCount-le}
@@ -24,7 +25,6 @@ use Rattle.sheet.specs.Layout.{size, rowAt, countAt, setBits}
 use Rattle.sheet.specs.Fill.{over}
 use Rattle.sheet.specs.Internal.{RowBase, RowAdded, RowsSummed, successorsSum, SuccessorsSummed, SameRow, RowHolds, RowFilled}
 use Rattle.sheet.proofs.FillLaws.{length-puts, over-in, over-out}
-use Rattle.sums.proofs.SumLaws.{sum-cong}
 
 -- ---- a row added to another, word by word
 

@@ -10,11 +10,11 @@ use Rattle.sheet.specs.Table.{Reflects}
 use Rattle.sheet.specs.Conditions.{StrayRow, sized}
 use Rattle.sheet.specs.Valid.{Valid}
 use Rattle.sheet.specs.Internal.{RowHolds, OrderFound, shapeNumber}
-use Rattle.sheet.proofs.TableLaws.{reflects-none, reflects-false, reflects-iff, first-only}
-use Rattle.sheet.proofs.ValidLaws.{valid-iff-holds}
 use Rattle.sheet.specs.declared.answer.Answer.{Answer}
 use Rattle.sheet.specs.Answers.{answer}
 use Rattle.sheet.specs.Calls.{Validate}
+use Rattle.sheet.proofs.TableLaws.{reflects-none, reflects-false, reflects-iff, first-only}
+use Rattle.sheet.proofs.ValidLaws.{valid-iff-holds}
 use Rattle.sheet.proofs.ShapeLaws.{shape-of, shape-refused, shape-passed}
 use Rattle.sheet.proofs.OrderLaws.{ordered-acyclic}
 

@@ -5,7 +5,7 @@ use mathlib.Core.Bool.{cond}
 use mathlib.Core.List.{List, [], _∷_}
 use Prim.Native.Nat.{ℕ, zero, suc, _+_, _-_, _*_, _/_, _%_, _≤_}
 use lib.Dec.{ltb}
-use lib.ListN.{length, getD}
+use lib.ListN.{length, getD, replicate}
 use Rattle.sums.specs.Sum.{sum, delta}
 use Rattle.word.specs.Bit.{bit, bitCount}
 
@@ -62,4 +62,4 @@ redone n r c s = build (length s) (redoneWord n r c s)
 
 -- the empty sheet: no edge, one path from each vertex to itself, and none to another
 unfoldable pub emptySheet : ℕ → List ℕ
-emptySheet n = redone n (λ i. 0) delta (build (size n) (λ k. 0))
+emptySheet n = redone n (λ i. 0) delta (replicate (size n) 0)

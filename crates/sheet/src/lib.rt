@@ -81,9 +81,9 @@ pub fn recount(n: usize, sheet: &mut [u64]) -> Answer
     Answer::accepted(rows::count_edges(n, sheet))
 }
 
-// Internal: whether a sheet of the right shape is valid. Where there is no cycle, the counts are the numbers of paths exactly
+// Whether a sheet of the right shape is valid. Where there is no cycle, the counts are the numbers of paths exactly
 // if they satisfy the recurrence.
-pub fn is_valid(n: usize, sheet: &[u64]) -> bool
+fn is_valid(n: usize, sheet: &[u64]) -> bool
     requires { ⌜ Shape n (now sheet) ⌝ }
     ensures { λ r. ⌜ Reflects r (Valid n (now (sheet .entry))) ⌝ }
 {

@@ -21,8 +21,8 @@ fn add_row(n: usize, sheet: &[u64], base: usize, t: &mut [u64; Sheet::VERTICES])
     }
 }
 
-// Internal: for each j below n, the sum of the counts to j from the vertices of the mask, modulo 2^64.
-pub fn sum_rows(n: usize, sheet: &[u64], mask: u64) -> [u64; Sheet::VERTICES]
+// For each j below n, the sum of the counts to j from the vertices of the mask, modulo 2^64.
+fn sum_rows(n: usize, sheet: &[u64], mask: u64) -> [u64; Sheet::VERTICES]
     requires { ⌜ (Shape n (now sheet)) × (mask < 2 ^ n) ⌝ }
     ensures { λ r. ⌜ RowsSummed n (now (sheet .entry)) mask r ⌝ }
 {

@@ -2,7 +2,7 @@
 use mathlib.Core.Path.{_≡_, refl, sym, ap, ap₂, _∙_}
 use mathlib.Core.Logic.{_≢_}
 use Prim.Native.Nat.{ℕ, zero, suc, _+_, _*_, _≤_, _<_, zero-le}
-use native.Mathlib.Nat.{mul-zero, zero-mul, mul-comm, mul-assoc, mul-add, add-mul, le-refl, le-step, add-le-add}
+use native.Mathlib.Nat.{mul-zero, zero-mul, suc-mul, mul-comm, mul-assoc, mul-add, add-mul, le-refl, le-step, add-le-add}
 use native.Mathlib.Decide.{ℕ-discrete, decLt}
 use native.Mathlib.Omega.{arith}
 use Rattle.sums.specs.Sum.{sum, delta}
@@ -38,10 +38,13 @@ unfolding sum
 sum-add zero f g = refl
 sum-add (suc n) f g = omega (arith, sum-add n f g)
 
-pub sum-zero : (n : ℕ) → sum n (λ _. 0) ≡ 0
+pub sum-const : (n c : ℕ) → sum n (λ _. c) ≡ n * c
 unfolding sum
-sum-zero zero = refl
-sum-zero (suc n) = omega (arith, sum-zero n)
+sum-const zero c = sym (zero-mul c)
+sum-const (suc n) c = ap (λ (x : ℕ). x + c) (sum-const n c) ∙ sym (suc-mul n c)
+
+pub sum-zero : (n : ℕ) → sum n (λ _. 0) ≡ 0
+sum-zero n = sum-const n 0 ∙ mul-zero n
 
 pub sum-all-zero : (n : ℕ) (f : ℕ → ℕ) → ((i : ℕ) → i < n → f i ≡ 0) → sum n f ≡ 0
 sum-all-zero n f h = sum-cong n f (λ _. 0) h ∙ sum-zero n
