@@ -31,21 +31,21 @@ pub fn empty(n: usize, sheet: &mut [u64]) -> Answer
     Answer::accepted(0)
 }
 
-// The count from i to j as it stands in the sheet; on a valid sheet, the number of paths. Refused by 1, 2, 3.
-pub fn path_count(n: usize, sheet: &[u64], i: usize, j: usize) -> Answer
-    ensures answer { λ r. ⌜ r ≡ pathCountAnswer n (now (sheet .entry)) i j ⌝ }
+// The count from one vertex to another as it stands in the sheet; on a valid sheet, the number of paths. Refused by 1, 2, 3.
+pub fn path_count(n: usize, sheet: &[u64], from: usize, to: usize) -> Answer
+    ensures answer { λ r. ⌜ r ≡ pathCountAnswer n (now (sheet .entry)) from to ⌝ }
 {
     let number = checks::shape_number(n, sheet.len());
     if number != 0 {
         return Answer::refused(number);
     }
-    if n <= i {
+    if n <= from {
         return Answer::refused(Refusal::VERTEX);
     }
-    if n <= j {
+    if n <= to {
         return Answer::refused(Refusal::VERTEX);
     }
-    let k = layout::count_place(n, i, j);
+    let k = layout::count_place(n, from, to);
     Answer::accepted(sheet[k])
 }
 

@@ -1,0 +1,38 @@
+// The C interface: each public call under a C name, with the contract of the call that it forwards to. include/lugloquat.h
+// declares what this file exports; a slice crosses as a pointer and a number of words.
+ghost use mathlib.Core.Path.{_≡_};
+ghost use Rattle.sheet.specs.Calls.{emptyAnswer, emptyAfter, pathCountAnswer, Recount, Validate};
+use sheet::Answer;
+
+// The empty sheet of n vertices, whatever the words were. Refused by 1, 2. The value is 0.
+#[no_mangle]
+pub extern "C" fn lugloquat_empty(n: usize, sheet: &mut [u64]) -> Answer
+    ensures answer { λ r. ⌜ r ≡ emptyAnswer n (now (sheet .entry)) ⌝ }
+    ensures words { λ r. ⌜ now (sheet .exit) ≡ emptyAfter n (now (sheet .entry)) ⌝ }
+{
+    sheet::empty(n, sheet)
+}
+
+// The count from one vertex to another as it stands in the sheet. Refused by 1, 2, 3. The value is the count.
+#[no_mangle]
+pub extern "C" fn lugloquat_path_count(n: usize, sheet: &[u64], from: usize, to: usize) -> Answer
+    ensures answer { λ r. ⌜ r ≡ pathCountAnswer n (now (sheet .entry)) from to ⌝ }
+{
+    sheet::path_count(n, sheet, from, to)
+}
+
+// The counts worked out afresh from the rows. Refused by 1, 2, 4, 8. The value is the number of set bits in all rows.
+#[no_mangle]
+pub extern "C" fn lugloquat_recount(n: usize, sheet: &mut [u64]) -> Answer
+    ensures recounted { λ r. ⌜ Recount n (now (sheet .entry)) r (now (sheet .exit)) ⌝ }
+{
+    sheet::recount(n, sheet)
+}
+
+// Whether the sheet is valid, whoever wrote it. Refused by 1, 2. The value is 1 or 0.
+#[no_mangle]
+pub extern "C" fn lugloquat_validate(n: usize, sheet: &[u64]) -> Answer
+    ensures tested { λ r. ⌜ Validate n (now (sheet .entry)) r ⌝ }
+{
+    sheet::validate(n, sheet)
+}

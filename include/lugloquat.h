@@ -1,0 +1,90 @@
+/*
+ * Path counts for an acyclic directed graph of 1 to 64 vertices, kept exactly in one buffer of 64-bit words: the C interface.
+ *
+ * A sheet of n vertices, numbered from 0, is n + n * n words. Word i, for i below n, is row i: its bit j is 1 exactly if an
+ * edge runs from i to j. Word n + i * n + j is the count from i to j. A sheet is valid if no row has a bit at n or above, there
+ * is no cycle, and each count is the number of paths; a vertex alone is one path, from it to itself.
+ *
+ * Every call answers for every n, every length and all words, and ends. It keeps nothing between calls, so calls on different
+ * sheets may run at the same time. A refused call changes no word. The caller lends `sheet`, aligned and `words` words long, and
+ * nobody else writes it during the call; if `words` is 0 it may be NULL.
+ *
+ * Link with liblugloquat.a. It needs memcpy and memset, and nothing else.
+ */
+#ifndef LUGLOQUAT_H
+#define LUGLOQUAT_H
+
+#include <stddef.h>
+#include <stdint.h>
+
+#ifdef __cplusplus
+extern "C" {
+#endif
+
+/* The words of a sheet of n vertices. */
+#define LUGLOQUAT_WORD_COUNT(n) ((n) + (n) * (n))
+
+/* The greatest sizes: of a sheet's vertices, of its words, and of a valid sheet's edges. */
+enum {
+    LUGLOQUAT_VERTICES = 64,
+    LUGLOQUAT_WORDS = 4160,
+    LUGLOQUAT_EDGES = 2016
+};
+
+/*
+ * What a call answers. number: 0 for accepted, else that of the refusal. place: the refused record of a plan, from 1 up, where a
+ * call takes a plan, else 0. value: what the call says below, and 0 when refused.
+ */
+typedef struct {
+    uint64_t number;
+    uint64_t place;
+    uint64_t value;
+} lugloquat_answer;
+
+/* The numbers. A call lists those by which it refuses in the order in which it looks for them: the first gives the number. */
+enum {
+    LUGLOQUAT_ACCEPTED = 0,
+    LUGLOQUAT_REFUSED_VERTICES = 1,      /* n is not 1 to 64 */
+    LUGLOQUAT_REFUSED_LENGTH = 2,        /* the sheet isn't n + n * n words */
+    LUGLOQUAT_REFUSED_VERTEX = 3,        /* a vertex named is n or more */
+    LUGLOQUAT_REFUSED_STRAY_BIT = 4,     /* a mask, or a row in a recount, has a bit at n or above */
+    LUGLOQUAT_REFUSED_SELF_LOOP = 5,     /* an edge to insert runs from a vertex to itself */
+    LUGLOQUAT_REFUSED_PRESENT = 6,       /* an edge to insert is already there */
+    LUGLOQUAT_REFUSED_ABSENT = 7,        /* an edge to delete or go without is not there */
+    LUGLOQUAT_REFUSED_CYCLE = 8,         /* a cycle */
+    LUGLOQUAT_REFUSED_NOT_VALID = 9,     /* the sheet is not valid, or a path by number does not arrive as it should */
+    LUGLOQUAT_REFUSED_BUFFER = 10,       /* the buffer to write is too short */
+    LUGLOQUAT_REFUSED_NO_SUCH_PATH = 11, /* a path's number is not below the count */
+    LUGLOQUAT_REFUSED_NO_PATH = 12,      /* a path has no vertices, more than n, or two neighbours without an edge */
+    LUGLOQUAT_REFUSED_PLAN_LENGTH = 13,  /* a plan's length is not a multiple of 8, or over 32,768 bytes */
+    LUGLOQUAT_REFUSED_RECORD = 14        /* a record of a plan is not of the form */
+};
+
+/*
+ * Makes the sheet the empty one of n vertices, whatever its words were: no edge, and each count from a vertex to itself 1, every
+ * other 0. Refused by 1, 2. value: 0.
+ */
+lugloquat_answer lugloquat_empty(size_t n, uint64_t *sheet, size_t words);
+
+/*
+ * The count between two vertices as it stands in the sheet; on a valid sheet, the number of paths. Refused by 1, 2, 3 (from or to
+ * is n or more). value: the count.
+ */
+lugloquat_answer lugloquat_path_count(size_t n, const uint64_t *sheet, size_t words, size_t from, size_t to);
+
+/*
+ * Works out every count afresh from the rows, which stay. Refused by 1, 2, 4, 8 (an edge from a vertex to itself is a cycle).
+ * value: the number of set bits in all rows.
+ */
+lugloquat_answer lugloquat_recount(size_t n, uint64_t *sheet, size_t words);
+
+/*
+ * Whether the sheet is valid, whoever wrote it. Refused by 1, 2. value: 1 or 0.
+ */
+lugloquat_answer lugloquat_validate(size_t n, const uint64_t *sheet, size_t words);
+
+#ifdef __cplusplus
+}
+#endif
+
+#endif

@@ -1,0 +1,39 @@
+//! Refusals as values: each number has one reason, and the reason says its number, its meaning and its place.
+
+use lugloquat::{validate, Reason, Refusal};
+
+#[test]
+fn numbers_1_to_14_have_a_reason() {
+    for number in 0..100 {
+        assert_eq!(
+            Reason::from_number(number).map(Reason::number),
+            (1..=14).contains(&number).then_some(number)
+        );
+    }
+}
+
+#[test]
+fn a_refusal_says_why() {
+    let refused = validate(65, &[]).unwrap_err();
+    assert_eq!(
+        refused,
+        Refusal {
+            reason: Reason::Vertices,
+            place: 0
+        }
+    );
+    assert_eq!(refused.to_string(), "refused 1: n is not 1 to 64");
+    let record = Refusal {
+        reason: Reason::Cycle,
+        place: 2,
+    };
+    assert_eq!(record.to_string(), "record 2 refused 8: a cycle");
+}
+
+#[test]
+fn a_refusal_is_an_error() {
+    fn asks() -> Result<u64, Box<dyn std::error::Error>> {
+        Ok(validate(1, &[])?)
+    }
+    assert_eq!(asks().unwrap_err().to_string(), "refused 2: the sheet isn't n + n × n words");
+}
