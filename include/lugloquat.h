@@ -5,11 +5,11 @@
  * edge runs from i to j. Word n + i * n + j is the count from i to j. A sheet is valid if no row has a bit at n or above, there
  * is no cycle, and each count is the number of paths; a vertex alone is one path, from it to itself.
  *
- * Every call answers for every n, every length and all words, and ends. It keeps nothing between calls, so calls on different
- * sheets may run at the same time. A refused call changes no word. The caller lends `sheet`, aligned and `words` words long, and
- * nobody else writes it during the call; if `words` is 0 it may be NULL.
+ * Every call answers for every n, every length and all words, and ends. A refused call changes no word. The caller lends `sheet`,
+ * `words` words aligned as uint64_t, and nobody else writes them during the call; if `words` is 0 it may be NULL. No call keeps
+ * anything between calls, so calls on different sheets, and calls that only read one sheet, may run at the same time.
  *
- * Link with liblugloquat.a. It needs memcpy and memset, and nothing else.
+ * Link with liblugloquat.a, which is for x86-64 and its System V calling convention. It needs memcpy and memset, and nothing else.
  */
 #ifndef LUGLOQUAT_H
 #define LUGLOQUAT_H
@@ -21,8 +21,8 @@
 extern "C" {
 #endif
 
-/* The words of a sheet of n vertices. */
-#define LUGLOQUAT_WORD_COUNT(n) ((n) + (n) * (n))
+/* The words of a sheet of n vertices. n is evaluated three times. */
+#define LUGLOQUAT_WORD_COUNT(n) ((size_t)(n) + (size_t)(n) * (size_t)(n))
 
 /* The greatest sizes: of a sheet's vertices, of its words, and of a valid sheet's edges. */
 enum {
@@ -52,12 +52,12 @@ enum {
     LUGLOQUAT_REFUSED_PRESENT = 6,       /* an edge to insert is already there */
     LUGLOQUAT_REFUSED_ABSENT = 7,        /* an edge to delete or go without is not there */
     LUGLOQUAT_REFUSED_CYCLE = 8,         /* a cycle */
-    LUGLOQUAT_REFUSED_NOT_VALID = 9,     /* the sheet is not valid, or a path by number does not arrive as it should */
+    LUGLOQUAT_REFUSED_NOT_VALID = 9,     /* the sheet is not valid, or its counts lead a path by number astray */
     LUGLOQUAT_REFUSED_BUFFER = 10,       /* the buffer to write is too short */
     LUGLOQUAT_REFUSED_NO_SUCH_PATH = 11, /* a path's number is not below the count */
     LUGLOQUAT_REFUSED_NO_PATH = 12,      /* a path has no vertices, more than n, or two neighbours without an edge */
     LUGLOQUAT_REFUSED_PLAN_LENGTH = 13,  /* a plan's length is not a multiple of 8, or over 32,768 bytes */
-    LUGLOQUAT_REFUSED_RECORD = 14        /* a record of a plan is not of the form */
+    LUGLOQUAT_REFUSED_RECORD = 14        /* a record of a plan is malformed */
 };
 
 /*
@@ -79,7 +79,8 @@ lugloquat_answer lugloquat_path_count(size_t n, const uint64_t *sheet, size_t wo
 lugloquat_answer lugloquat_recount(size_t n, uint64_t *sheet, size_t words);
 
 /*
- * Whether the sheet is valid, whoever wrote it. Refused by 1, 2. value: 1 or 0.
+ * Whether the sheet is valid, whoever wrote it. Refused by 1, 2. value: 1 if it is, else 0; a sheet that is not valid is accepted
+ * with 0.
  */
 lugloquat_answer lugloquat_validate(size_t n, const uint64_t *sheet, size_t words);
 

@@ -1,4 +1,4 @@
-//! Links the static library, from `../target/staticlib` or from the folder that `LUGLOQUAT_LIB_DIR` names.
+//! Links the static library, from `../target/staticlib` or from the folder that `LUGLOQUAT_LIB_DIR` names by its full path.
 
 use std::{env, path::PathBuf};
 
@@ -14,7 +14,7 @@ fn main() {
     let archive = folder.join("liblugloquat.a");
     assert!(
         archive.is_file(),
-        "{} is not there; `rt staticlib lugloquat` makes it",
+        "{} is not there: `rt staticlib lugloquat` makes it, and LUGLOQUAT_LIB_DIR names another folder",
         archive.display()
     );
     println!("cargo:rerun-if-changed={}", archive.display());

@@ -28,7 +28,6 @@ mod refusal;
 pub mod sys;
 
 pub use refusal::{Reason, Refusal};
-use sys::Answer;
 
 /// The most vertices that a sheet has.
 pub const VERTICES: usize = 64;
@@ -37,23 +36,12 @@ pub const WORDS: usize = 4160;
 /// The most edges that a valid sheet has.
 pub const EDGES: usize = 2016;
 
-/// The words of a sheet of n vertices.
+/// The words of a sheet of n vertices, or `usize::MAX` if there are more.
 pub const fn word_count(n: usize) -> usize {
-    n + n * n
+    n.saturating_mul(n).saturating_add(n)
 }
 
 const _: () = assert!(word_count(VERTICES) == WORDS);
-
-/// An answer as a result. The library answers no number that has no [`Reason`]: that is part of what is proved of it.
-fn result(answer: Answer) -> Result<u64, Refusal> {
-    match answer.number {
-        0 => Ok(answer.value),
-        number => Err(Refusal {
-            reason: Reason::from_number(number).expect("the number of a refusal"),
-            place: answer.place,
-        }),
-    }
-}
 
 /// Makes the sheet the empty one of n vertices, whatever its words were: no edge, and each count from a vertex to itself 1, every
 /// other 0. The value is 0.
@@ -61,7 +49,7 @@ fn result(answer: Answer) -> Result<u64, Refusal> {
 /// Refused as [`Reason::Vertices`], [`Reason::Length`], in this order.
 pub fn empty(n: usize, sheet: &mut [u64]) -> Result<u64, Refusal> {
     // SAFETY: the words are those of the slice, lent for the call alone.
-    result(unsafe { sys::lugloquat_empty(n, sheet.as_mut_ptr(), sheet.len()) })
+    unsafe { sys::lugloquat_empty(n, sheet.as_mut_ptr(), sheet.len()) }.result()
 }
 
 /// The count from one vertex to another as it stands in the sheet; on a valid sheet, the number of paths.
@@ -69,7 +57,7 @@ pub fn empty(n: usize, sheet: &mut [u64]) -> Result<u64, Refusal> {
 /// Refused as [`Reason::Vertices`], [`Reason::Length`], [`Reason::Vertex`], in this order.
 pub fn path_count(n: usize, sheet: &[u64], from: usize, to: usize) -> Result<u64, Refusal> {
     // SAFETY: the words are those of the slice, and are only read.
-    result(unsafe { sys::lugloquat_path_count(n, sheet.as_ptr(), sheet.len(), from, to) })
+    unsafe { sys::lugloquat_path_count(n, sheet.as_ptr(), sheet.len(), from, to) }.result()
 }
 
 /// Works out every count afresh from the rows, which stay. The value is the number of set bits in all rows.
@@ -78,7 +66,7 @@ pub fn path_count(n: usize, sheet: &[u64], from: usize, to: usize) -> Result<u64
 /// to itself is a cycle.
 pub fn recount(n: usize, sheet: &mut [u64]) -> Result<u64, Refusal> {
     // SAFETY: the words are those of the slice, lent for the call alone.
-    result(unsafe { sys::lugloquat_recount(n, sheet.as_mut_ptr(), sheet.len()) })
+    unsafe { sys::lugloquat_recount(n, sheet.as_mut_ptr(), sheet.len()) }.result()
 }
 
 /// Whether the sheet is valid, whoever wrote it: the value is 1 if it is, else 0.
@@ -86,5 +74,5 @@ pub fn recount(n: usize, sheet: &mut [u64]) -> Result<u64, Refusal> {
 /// Refused as [`Reason::Vertices`], [`Reason::Length`], in this order.
 pub fn validate(n: usize, sheet: &[u64]) -> Result<u64, Refusal> {
     // SAFETY: the words are those of the slice, and are only read.
-    result(unsafe { sys::lugloquat_validate(n, sheet.as_ptr(), sheet.len()) })
+    unsafe { sys::lugloquat_validate(n, sheet.as_ptr(), sheet.len()) }.result()
 }

@@ -61,12 +61,12 @@ reasons! {
     Present = 6, "an edge to insert is already there";
     Absent = 7, "an edge to delete or go without is not there";
     Cycle = 8, "a cycle";
-    NotValid = 9, "the sheet is not valid, or a path by number does not arrive as it should";
+    NotValid = 9, "the sheet is not valid, or its counts lead a path by number astray";
     Buffer = 10, "the buffer to write is too short";
     NoSuchPath = 11, "a path's number is not below the count";
     NoPath = 12, "a path has no vertices, more than n, or two neighbours without an edge";
     PlanLength = 13, "a plan's length is not a multiple of 8, or over 32,768 bytes";
-    Record = 14, "a record of a plan is not of the form";
+    Record = 14, "a record of a plan is malformed";
 }
 
 impl Reason {

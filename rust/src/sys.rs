@@ -1,5 +1,6 @@
-//! The C interface as it is: the declarations of `include/lugloquat.h`. Each call reads, and where the pointer is `*mut` writes,
-//! the words lent and nothing else; the caller vouches that `words` words stand at `sheet`.
+//! The C interface as it is: the declarations of `include/lugloquat.h`, which says what the caller of each owes.
+
+use crate::{Reason, Refusal};
 
 /// What a call answers.
 #[repr(C)]
@@ -11,6 +12,18 @@ pub struct Answer {
     pub place: u64,
     /// What was asked for, and 0 when refused.
     pub value: u64,
+}
+
+impl Answer {
+    /// The value, or why there is none. The library answers no number that has no [`Reason`]: that is part of what is proved of it.
+    pub fn result(self) -> Result<u64, Refusal> {
+        if self.number == 0 {
+            return Ok(self.value);
+        }
+        let reason = Reason::from_number(self.number).expect("the number of a refusal");
+        let place = self.place;
+        Err(Refusal { reason, place })
+    }
 }
 
 extern "C" {

@@ -1,6 +1,22 @@
-//! Refusals as values: each number has one reason, and the reason says its number, its meaning and its place.
+//! Answers as results: each number has one reason, and a refusal says its number, its meaning and its place.
 
-use lugloquat::{validate, Reason, Refusal};
+use lugloquat::{sys::Answer, validate, word_count, Reason, Refusal};
+
+#[test]
+fn an_answer_is_a_value_or_a_refusal() {
+    let answer = |number, place, value| Answer { number, place, value }.result();
+    assert_eq!(answer(0, 0, 7), Ok(7));
+    let (reason, place) = (Reason::Cycle, 2);
+    assert_eq!(answer(8, 2, 0), Err(Refusal { reason, place }));
+}
+
+#[test]
+fn the_words_of_a_sheet_are_counted_for_every_n() {
+    assert_eq!(
+        [0, 1, 5, 64, 1 << 32, usize::MAX].map(word_count),
+        [0, 2, 30, 4160, usize::MAX, usize::MAX]
+    );
+}
 
 #[test]
 fn numbers_1_to_14_have_a_reason() {

@@ -11,11 +11,10 @@ pub enum Call {
     Validate,
 }
 
-/// The buffers of a case. A call that takes no bytes leaves them as they are.
+/// The buffers of a case.
 #[derive(Clone)]
 pub struct Buffers {
     pub sheet: Vec<u64>,
-    pub bytes: Vec<u8>,
 }
 
 /// What the model is: it takes n, the call and the buffers, changes these as the call does, and answers.

@@ -44,7 +44,7 @@ fn validate(rng: &mut Rng) -> Case {
     on_any_sheet(rng, |_, _| Call::Validate)
 }
 
-/// The call on a sheet of any kind, with n and the length mostly right. The bytes are there to be left alone.
+/// The call on a sheet of any kind, with n and the length mostly right.
 fn on_any_sheet(rng: &mut Rng, call: fn(&mut Rng, usize) -> Call) -> Case {
     let (n, sheet, kind) = match rng.below(16) {
         0 => of_wrong_n(rng),
@@ -52,8 +52,7 @@ fn on_any_sheet(rng: &mut Rng, call: fn(&mut Rng, usize) -> Call) -> Case {
         _ => of_right_sizes(rng),
     };
     let call = call(rng, n);
-    let bytes = (0..rng.below(8)).map(|_| rng.word() as u8).collect();
-    let lent = Buffers { sheet, bytes };
+    let lent = Buffers { sheet };
     Case { n, call, lent, kind }
 }
 

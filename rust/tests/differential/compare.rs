@@ -21,9 +21,8 @@ pub struct Compared {
     pub calls: u64,
 }
 
-/// Where a buffer first differs: the place counts from the first word or byte lent, so that one before it is negative.
+/// Where a buffer first differs: the place counts from the first word lent, so that one before it is negative.
 struct Difference {
-    what: &'static str,
     place: isize,
     model: u64,
     library: u64,
@@ -39,48 +38,46 @@ pub struct Mismatch {
 
 /// A buffer between guards, in one allocation.
 #[derive(Clone)]
-struct Guarded<T> {
-    all: Vec<T>,
+struct Guarded {
+    all: Vec<u64>,
     start: usize,
     length: usize,
 }
 
-impl<T: Copy + PartialEq + Into<u64>> Guarded<T> {
+impl Guarded {
     /// The buffer between 4 to 11 guards on each side.
-    fn new(lent: &[T], rng: &mut Rng, guard: fn(u64) -> T) -> Guarded<T> {
+    fn new(lent: &[u64], rng: &mut Rng) -> Guarded {
         let (start, behind) = (4 + rng.below(8), 4 + rng.below(8));
-        let mut all: Vec<T> = (0..start).map(|_| guard(rng.word())).collect();
+        let mut all = rng.words(start);
         all.extend_from_slice(lent);
-        all.extend((0..behind).map(|_| guard(rng.word())));
+        all.extend(rng.words(behind));
         let length = lent.len();
         Guarded { all, start, length }
     }
 
     /// The same guards around another buffer of the same length.
-    fn around(&self, lent: &[T]) -> Guarded<T> {
+    fn around(&self, lent: &[u64]) -> Guarded {
         let mut other = self.clone();
         other.all[self.start..self.start + self.length].copy_from_slice(lent);
         other
     }
 
-    /// The first word or byte lent. What stands around it belongs to the same allocation.
-    fn pointer(&mut self) -> *mut T {
+    /// The first word lent. What stands around it belongs to the same allocation.
+    fn pointer(&mut self) -> *mut u64 {
         self.all.as_mut_ptr().wrapping_add(self.start)
     }
 
-    fn difference(&self, what: &'static str, library: &Guarded<T>) -> Option<Difference> {
+    fn difference(&self, library: &Guarded) -> Option<Difference> {
         let at = (0..self.all.len()).find(|&at| self.all[at] != library.all[at])?;
         Some(Difference {
-            what,
             place: at as isize - self.start as isize,
-            model: self.all[at].into(),
-            library: library.all[at].into(),
+            model: self.all[at],
+            library: library.all[at],
         })
     }
 }
 
-/// Runs the case on the model once and on the library by each way, and compares the answers, every word and byte lent, and every
-/// guard.
+/// Runs the case on the model once and on the library by each way, and compares the answers, every word lent, and every guard.
 pub fn compare(case: &Case, model: Model, ways: &[Way], rng: &mut Rng) -> Result<Compared, Box<Mismatch>> {
     let mut after = case.lent.clone();
     let answer = model(case.n, &case.call, &mut after);
@@ -95,18 +92,15 @@ pub fn compare(case: &Case, model: Model, ways: &[Way], rng: &mut Rng) -> Result
 }
 
 fn compare_by(way: &Way, case: &Case, model: Answer, after: &Buffers, rng: &mut Rng) -> Result<(), Box<Mismatch>> {
-    let mut sheet = Guarded::new(&case.lent.sheet, rng, |word| word);
-    let mut bytes = Guarded::new(&case.lent.bytes, rng, |word| word as u8);
-    let (sheet_after, bytes_after) = (sheet.around(&after.sheet), bytes.around(&after.bytes));
+    let mut sheet = Guarded::new(&case.lent.sheet, rng);
+    let sheet_after = sheet.around(&after.sheet);
     let lent = Lent {
         sheet: sheet.pointer(),
         words: sheet.length,
-        bytes: bytes.pointer(),
-        byte_count: bytes.length,
     };
-    // SAFETY: the words and the bytes lent stand in allocations of their own, which outlive the call and which nobody else uses.
+    // SAFETY: the words lent stand in an allocation of their own, which outlives the call and which nobody else uses.
     let library = unsafe { (way.library)(case.n, &case.call, lent) };
-    let difference = (sheet_after.difference("word", &sheet)).or_else(|| bytes_after.difference("byte", &bytes));
+    let difference = sheet_after.difference(&sheet);
     if model == library && difference.is_none() {
         return Ok(());
     }
@@ -120,8 +114,8 @@ fn compare_by(way: &Way, case: &Case, model: Answer, after: &Buffers, rng: &mut 
 
 impl fmt::Display for Case {
     fn fmt(&self, f: &mut fmt::Formatter<'_>) -> fmt::Result {
-        let (call, n, words, bytes) = (&self.call, self.n, self.lent.sheet.len(), self.lent.bytes.len());
-        write!(f, "{call:?}, n {n}, {words} words, {bytes} bytes, sheet: {}", self.kind)
+        let (call, n, words) = (&self.call, self.n, self.lent.sheet.len());
+        write!(f, "{call:?}, n {n}, {words} words, sheet: {}", self.kind)
     }
 }
 
@@ -132,11 +126,11 @@ impl fmt::Display for Mismatch {
         writeln!(f, "  model:   {}", answer(&self.model))?;
         writeln!(f, "  library: {}", answer(&self.library))?;
         match &self.difference {
-            None => write!(f, "  every word, byte and guard is the same"),
+            None => write!(f, "  every word and guard is the same"),
             Some(d) => write!(
                 f,
-                "  first difference: {} {}, model {:#x}, library {:#x}",
-                d.what, d.place, d.model, d.library
+                "  first difference: word {}, model {:#x}, library {:#x}",
+                d.place, d.model, d.library
             ),
         }
     }

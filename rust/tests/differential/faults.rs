@@ -89,8 +89,8 @@ fn trials() -> Vec<Trial> {
     trials
 }
 
-/// Each library makes the right call and besides does what its name says. The words and bytes around the buffers are guards, in
-/// the same allocations as the buffers, so that writing them is allowed here.
+/// Each library makes the right call and besides does what its name says. The words around the sheet are guards, in the same
+/// allocation as the sheet, so that writing them is allowed here.
 const LIBRARIES: &[(&str, Library)] = &[
     ("writes the word before the sheet", |n, call, lent| unsafe {
         changing(n, call, lent, |_| Some(lent.sheet.wrapping_sub(1)))
@@ -104,14 +104,6 @@ const LIBRARIES: &[(&str, Library)] = &[
     ("writes the last word when it should only read", |n, call, lent| unsafe {
         let reads = matches!(call, Call::Validate | Call::PathCount { .. });
         changing(n, call, lent, |_| last_word(lent).filter(|_| reads))
-    }),
-    ("writes the byte before the bytes", |n, call, lent| unsafe {
-        *lent.bytes.wrapping_sub(1) ^= 1;
-        by_c(n, call, lent)
-    }),
-    ("writes the byte after the bytes", |n, call, lent| unsafe {
-        *lent.bytes.wrapping_add(lent.byte_count) ^= 1;
-        by_c(n, call, lent)
     }),
 ];
 

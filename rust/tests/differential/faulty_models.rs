@@ -365,10 +365,7 @@ fn is_valid(n: usize, lent: &Buffers) -> bool {
 
 /// The recounted sheet, if the recount is accepted.
 fn recounted(n: usize, sheet: &[u64]) -> Option<Vec<u64>> {
-    let mut lent = Buffers {
-        sheet: sheet.to_vec(),
-        bytes: Vec::new(),
-    };
+    let mut lent = Buffers { sheet: sheet.to_vec() };
     is_accepted(&right(n, &Call::Recount, &mut lent)).then_some(lent.sheet)
 }
 

@@ -38,10 +38,7 @@ impl Fixed {
     /// Runs the call on the model and on the library. Both must give the answer wanted and the same words, which the sheet then
     /// has.
     fn step(&mut self, n: usize, call: Call, sheet: &mut Vec<u64>, wanted: Answer) -> Done {
-        let lent = Buffers {
-            sheet: sheet.clone(),
-            bytes: Vec::new(),
-        };
+        let lent = Buffers { sheet: sheet.clone() };
         let kind = "a fixed case";
         let case = Case { n, call, lent, kind };
         let compared = compare(&case, model::answer, WAYS, &mut self.rng).map_err(|mismatch| format!("{case}\n{mismatch}"))?;

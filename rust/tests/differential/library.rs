@@ -4,16 +4,14 @@ use crate::call::Call;
 use lugloquat::sys::{self, Answer};
 use std::{ptr, slice};
 
-/// What is lent to a call: where the words and the bytes stand, and how many there are.
+/// What is lent to a call: where the words stand, and how many there are.
 #[derive(Clone, Copy)]
 pub struct Lent {
     pub sheet: *mut u64,
     pub words: usize,
-    pub bytes: *mut u8,
-    pub byte_count: usize,
 }
 
-/// A function that makes a call. Whoever calls it vouches that the buffers stand where `Lent` says.
+/// A function that makes a call. Whoever calls it vouches that the words stand where `Lent` says.
 pub type Library = unsafe fn(usize, &Call, Lent) -> Answer;
 
 /// One of the ways into the library.

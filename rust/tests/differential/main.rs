@@ -27,6 +27,7 @@ use tally::Tally;
 
 const SEED: u64 = 20_260_801;
 const CALLS: u64 = 500_000;
+const _: () = assert!(CALLS >= 200_000, "a run of the default length makes at least so many calls");
 
 fn main() -> ExitCode {
     match run() {

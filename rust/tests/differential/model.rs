@@ -3,7 +3,7 @@
 //! Up to eight vertices, cycles and counts come from a list of all paths; above, from an order of the vertices in which every
 //! edge runs forward.
 
-use crate::call::{Buffers, Call};
+use crate::call::{accepted, refused, Buffers, Call};
 use lugloquat::sys::Answer;
 
 /// `graph[i][j]` is whether an edge runs from i to j.
@@ -15,19 +15,8 @@ pub type Counts = Vec<Vec<u64>>;
 /// The most vertices for which every path is listed.
 pub const LISTED: usize = 8;
 
-/// Why a call is refused, and at which record.
-pub struct Refused {
-    pub number: u64,
-    pub place: u64,
-}
-
-/// The value of an accepted call, or why it is refused.
-type Verdict = Result<u64, Refused>;
-
-/// A refusal where no record is to blame.
-fn refused<T>(number: u64) -> Result<T, Refused> {
-    Err(Refused { number, place: 0 })
-}
+/// The value of an accepted call, or the number by which it is refused.
+type Verdict = Result<u64, u64>;
 
 /// The model's answer to any call.
 pub fn answer(n: usize, call: &Call, lent: &mut Buffers) -> Answer {
@@ -37,11 +26,7 @@ pub fn answer(n: usize, call: &Call, lent: &mut Buffers) -> Answer {
         Call::Recount => recount(n, &mut lent.sheet),
         Call::Validate => validate(n, &lent.sheet),
     };
-    let (number, place, value) = match verdict {
-        Ok(value) => (0, 0, value),
-        Err(Refused { number, place }) => (number, place, 0),
-    };
-    Answer { number, place, value }
+    verdict.map_or_else(refused, accepted)
 }
 
 fn empty(n: usize, sheet: &mut [u64]) -> Verdict {
@@ -54,7 +39,7 @@ fn empty(n: usize, sheet: &mut [u64]) -> Verdict {
 fn path_count(n: usize, sheet: &[u64], from: usize, to: usize) -> Verdict {
     check_sizes(n, sheet)?;
     if from >= n || to >= n {
-        return refused(3);
+        return Err(3);
     }
     Ok(sheet[count_index(n, from, to)])
 }
@@ -62,10 +47,10 @@ fn path_count(n: usize, sheet: &[u64], from: usize, to: usize) -> Verdict {
 fn recount(n: usize, sheet: &mut [u64]) -> Verdict {
     check_sizes(n, sheet)?;
     if has_stray_bit(n, sheet) {
-        return refused(4);
+        return Err(4);
     }
     match counts_of(&graph_of(n, sheet)) {
-        None => refused(8),
+        None => Err(8),
         Some(counts) => {
             write_counts(&counts, sheet);
             Ok(set_bits(n, sheet))
@@ -83,12 +68,12 @@ fn validate(n: usize, sheet: &[u64]) -> Verdict {
 }
 
 /// The conditions of every call: 1, n is not 1 to 64; 2, the sheet isn't n + n × n words.
-fn check_sizes(n: usize, sheet: &[u64]) -> Result<(), Refused> {
+fn check_sizes(n: usize, sheet: &[u64]) -> Result<(), u64> {
     if !(1..=64).contains(&n) {
-        return refused(1);
+        return Err(1);
     }
     if sheet.len() != n + n * n {
-        return refused(2);
+        return Err(2);
     }
     Ok(())
 }

@@ -62,13 +62,13 @@ pub fn sheet_of(graph: &Graph, counts: &Counts) -> Vec<u64> {
     sheet
 }
 
-fn counts_of(graph: &Graph) -> Counts {
+fn counts_of_acyclic(graph: &Graph) -> Counts {
     model::counts_by_order(graph).expect("an acyclic graph")
 }
 
 /// The valid sheet of an acyclic graph.
 fn valid_sheet_of(graph: &Graph) -> Vec<u64> {
-    sheet_of(graph, &counts_of(graph))
+    sheet_of(graph, &counts_of_acyclic(graph))
 }
 
 fn valid(rng: &mut Rng, n: usize) -> Option<Vec<u64>> {
@@ -112,20 +112,20 @@ fn counts_exchanged(rng: &mut Rng, n: usize) -> Option<Vec<u64>> {
 
 fn counts_transposed(rng: &mut Rng, n: usize) -> Option<Vec<u64>> {
     let graph = graphs::acyclic(rng, n);
-    let counts = counts_of(&graph);
+    let counts = counts_of_acyclic(&graph);
     let transposed = (0..n).map(|i| (0..n).map(|j| counts[j][i]).collect()).collect();
     Some(sheet_of(&graph, &transposed))
 }
 
 fn counts_of_another(rng: &mut Rng, n: usize) -> Option<Vec<u64>> {
     let graph = graphs::acyclic(rng, n);
-    Some(sheet_of(&graph, &counts_of(&graphs::acyclic(rng, n))))
+    Some(sheet_of(&graph, &counts_of_acyclic(&graphs::acyclic(rng, n))))
 }
 
 fn counts_of_renamed(rng: &mut Rng, n: usize) -> Option<Vec<u64>> {
     let graph = graphs::acyclic(rng, n);
     let names = rng.shuffled(n);
-    Some(sheet_of(&graph, &counts_of(&graphs::renamed(&graph, &names))))
+    Some(sheet_of(&graph, &counts_of_acyclic(&graphs::renamed(&graph, &names))))
 }
 
 fn row_bit_flipped(rng: &mut Rng, n: usize) -> Option<Vec<u64>> {
@@ -181,7 +181,7 @@ fn cycle_of_two(rng: &mut Rng, n: usize) -> Option<Vec<u64>> {
 
 fn path_closed(rng: &mut Rng, n: usize) -> Option<Vec<u64>> {
     let graph = graphs::acyclic(rng, n);
-    Some(sheet_of(&graphs::closed(rng, &graph)?, &counts_of(&graph)))
+    Some(sheet_of(&graphs::closed(rng, &graph)?, &counts_of_acyclic(&graph)))
 }
 
 /// A chain through all vertices and the edge from its end to its start.
@@ -192,7 +192,7 @@ fn one_cycle(rng: &mut Rng, n: usize) -> Option<Vec<u64>> {
     let names = rng.shuffled(n);
     Some(sheet_of(
         &graphs::renamed(&cycle, &names),
-        &counts_of(&graphs::renamed(&chain, &names)),
+        &counts_of_acyclic(&graphs::renamed(&chain, &names)),
     ))
 }
 
@@ -226,7 +226,7 @@ fn recurrence_on_random(rng: &mut Rng, n: usize) -> Option<Vec<u64>> {
 /// One edge from v back to u has such counts exactly if the number of paths from u to v is even.
 fn recurrence_on_closed(rng: &mut Rng, n: usize) -> Option<Vec<u64>> {
     let mut graph = graphs::acyclic(rng, n);
-    let counts = counts_of(&graph);
+    let counts = counts_of_acyclic(&graph);
     let pairs = (0..n).flat_map(|u| (0..n).map(move |v| (u, v)));
     let even: Vec<(usize, usize)> = pairs.filter(|&(u, v)| counts[u][v] > 0 && counts[u][v] % 2 == 0).collect();
     if even.is_empty() {
