@@ -8,8 +8,8 @@ use crate::answer::Refusal;
 use crate::layout;
 use crate::layout::Sheet;
 
-// Internal: 1 if n is not 1 to 64, else 2 if a sheet of n vertices has not so many words, else 0.
-pub fn shape_number(n: usize, words: usize) -> u64
+// 1 if n is not 1 to 64, else 2 if a sheet of n vertices has not so many words, else 0.
+pub(crate) fn shape_number(n: usize, words: usize) -> u64
     ensures { λ r. ⌜ r ≡ shapeNumber n words ⌝ }
 {
     if n < 1 {
@@ -24,8 +24,8 @@ pub fn shape_number(n: usize, words: usize) -> u64
     0
 }
 
-// Internal: whether a row has a bit at n or above.
-pub fn has_stray_row(n: usize, sheet: &[u64]) -> bool
+// Whether a row has a bit at n or above.
+pub(crate) fn has_stray_row(n: usize, sheet: &[u64]) -> bool
     requires { ⌜ Shape n (now sheet) ⌝ }
     ensures { λ r. ⌜ Reflects r (StrayRow n (now (sheet .entry))) ⌝ }
 {

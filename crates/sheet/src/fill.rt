@@ -31,8 +31,8 @@ fn diagonal(n: usize, sheet: &mut [u64])
     }
 }
 
-// Internal: the empty sheet of n vertices, whatever the words were.
-pub fn fill_empty(n: usize, sheet: &mut [u64])
+// The empty sheet of n vertices, whatever the words were.
+pub(crate) fn fill_empty(n: usize, sheet: &mut [u64])
     requires { ⌜ Shape n (now sheet) ⌝ }
     ensures { λ r. ⌜ now (sheet .exit) ≡ emptySheet n ⌝ }
 {

@@ -28,24 +28,24 @@ impl Sheet {
     }
 }
 
-// Internal: how many words a sheet of n vertices has.
-pub fn word_count(n: usize) -> usize
+// How many words a sheet of n vertices has.
+pub(crate) fn word_count(n: usize) -> usize
     requires { ⌜ n ≤ 64 ⌝ }
     ensures { λ r. ⌜ r ≡ size n ⌝ }
 {
     n + n * n
 }
 
-// Internal: where the counts from vertex i begin.
-pub fn row_base(n: usize, i: usize) -> usize
+// Where the counts from vertex i begin.
+pub(crate) fn row_base(n: usize, i: usize) -> usize
     requires { ⌜ (n ≤ 64) × (i < n) ⌝ }
     ensures { λ r. ⌜ RowBase n i r ⌝ }
 {
     n + i * n
 }
 
-// Internal: where the count from vertex i to vertex j stands.
-pub fn count_place(n: usize, i: usize, j: usize) -> usize
+// Where the count from vertex i to vertex j stands.
+pub(crate) fn count_place(n: usize, i: usize, j: usize) -> usize
     requires { ⌜ (n ≤ 64) × (i < n) × (j < n) ⌝ }
     ensures { λ r. ⌜ Place n i j r ⌝ }
 {

@@ -9,9 +9,9 @@ ghost use Rattle.sheet.specs.Internal.{RowsBelow, Peeled, lookedAt, ente
 use crate::layout::Sheet;
 
 // The vertices left, as a mask, and how many have been taken away.
-pub struct Peeling {
-    pub left: u64,
-    pub count: usize,
+struct Peeling {
+    left: u64,
+    count: usize,
 }
 
 // Vertex i with its row is looked at: it is taken away if it is left and no edge leads from it to what is left.
@@ -49,8 +49,8 @@ fn look_round(n: usize, sheet: &[u64], p: Peeling, order: &mut [usize; Sheet::VE
     q
 }
 
-// Internal: whether there is no cycle; then order holds every vertex, after those to which its edges lead.
-pub fn find_order(n: usize, sheet: &[u64], order: &mut [usize; Sheet::VERTICES]) -> bool
+// Whether there is no cycle; then order holds every vertex, after those to which its edges lead.
+pub(crate) fn find_order(n: usize, sheet: &[u64], order: &mut [usize; Sheet::VERTICES]) -> bool
     requires { ⌜ (Shape n (now sheet)) × (RowsBelow n (now sheet)) × (length (now order) ≡ 64) ⌝ }
     ensures { λ r. ⌜ OrderFound n (now (sheet .entry)) r (now (order .exit)) ⌝ }
 {

@@ -70,8 +70,8 @@ fn row_holds(n: usize, sheet: &[u64], i: usize) -> bool
     same_row(n, sheet, layout::row_base(n, i), &t)
 }
 
-// Internal: whether all counts satisfy the recurrence.
-pub fn rows_hold(n: usize, sheet: &[u64]) -> bool
+// Whether all counts satisfy the recurrence.
+pub(crate) fn rows_hold(n: usize, sheet: &[u64]) -> bool
     requires { ⌜ (Shape n (now sheet)) × (RowsBelow n (now sheet)) ⌝ }
     ensures { λ r. ⌜ Reflects r ((i : ℕ) → i < n → RowHolds n (now (sheet .entry)) i) ⌝ }
 {
@@ -97,8 +97,8 @@ fn put_row(n: usize, sheet: &mut [u64], base: usize, t: &[u64; Sheet::VERTICES])
     }
 }
 
-// Internal: the counts from v, written as the recurrence gives them.
-pub fn fill_row(n: usize, sheet: &mut [u64], v: usize)
+// The counts from v, written as the recurrence gives them.
+pub(crate) fn fill_row(n: usize, sheet: &mut [u64], v: usize)
     requires { ⌜ (Shape n (now sheet)) × (v < n) × (rowAt (now sheet) v < 2 ^ n) ⌝ }
     ensures { λ r. ⌜ RowFilled n (now (sheet .entry)) v (now (sheet .exit)) ⌝ }
 {
@@ -106,8 +106,8 @@ pub fn fill_row(n: usize, sheet: &mut [u64], v: usize)
     put_row(n, sheet, layout::row_base(n, v), &t);
 }
 
-// Internal: the set bits of all rows.
-pub fn count_edges(n: usize, sheet: &[u64]) -> u64
+// The set bits of all rows.
+pub(crate) fn count_edges(n: usize, sheet: &[u64]) -> u64
     requires { ⌜ Shape n (now sheet) ⌝ }
     ensures { λ r. ⌜ r ≡ setBits n (now (sheet .entry)) ⌝ }
 {
