@@ -67,6 +67,44 @@ enum {
 lugloquat_answer lugloquat_empty(size_t n, uint64_t *sheet, size_t words);
 
 /*
+ * Inserts the edge from one vertex to another and brings every count up to date, as lugloquat_insert_edges_at does at the vertex
+ * `from` with no predecessor and the one successor `to`; but a `to` of n or more is 3. Refused by 1, 2, 3, 5, 6, 8. value: the
+ * number of set bits in all rows afterwards.
+ */
+lugloquat_answer lugloquat_insert_edge(size_t n, uint64_t *sheet, size_t words, size_t from, size_t to);
+
+/*
+ * Deletes the edge from one vertex to another and brings every count up to date, as lugloquat_delete_edges_at does at the vertex
+ * `from` with no predecessor and the one successor `to`; but a `to` of n or more is 3. Refused by 1, 2, 3, 7. value: the number of
+ * set bits in all rows afterwards.
+ */
+lugloquat_answer lugloquat_delete_edge(size_t n, uint64_t *sheet, size_t words, size_t from, size_t to);
+
+/*
+ * Inserts the edges from each vertex of `predecessors` to v and from v to each vertex of `successors`, all at once, and brings
+ * every count up to date. Bit j of a mask is 1 exactly if vertex j is in it; with two empty masks the call is accepted, after 1,
+ * 2 and 3, and changes nothing. Refused by 1, 2, 3, 4, 5, 6, 8, each looked for in all of these edges before the next. value: the
+ * number of set bits in all rows afterwards.
+ *
+ * Let F(i) be the sum of count(i, a) over the predecessors a, and T(j) the sum of count(b, j) over the successors b. The call
+ * adds count(i, v) * T(j) + F(i) * count(v, j) + F(i) * T(j) to count(i, j), modulo 2 to the 64, all from the counts before it.
+ * 8 says that some count(v, a), count(b, v) or count(b, a) is not 0; on a valid sheet that is so exactly if there would be a
+ * cycle. A valid sheet stays valid; of the paths of any other nothing is claimed.
+ */
+lugloquat_answer lugloquat_insert_edges_at(size_t n, uint64_t *sheet, size_t words, size_t v, uint64_t predecessors,
+                                           uint64_t successors);
+
+/*
+ * Deletes the edges from each vertex of `predecessors` to v and from v to each vertex of `successors`, all at once, and brings
+ * every count up to date: with F and T as above it takes count(i, v) * T(j) + F(i) * count(v, j) - F(i) * T(j) off count(i, j),
+ * modulo 2 to the 64, all from the counts before it. Refused by 1, 2, 3, 4, 7. value: the number of set bits in all rows
+ * afterwards. A valid sheet stays valid; two empty masks change nothing. On a sheet that is not valid an edge from v to itself may
+ * be there: it may be in one mask or in both, and in both it counts in F and in T.
+ */
+lugloquat_answer lugloquat_delete_edges_at(size_t n, uint64_t *sheet, size_t words, size_t v, uint64_t predecessors,
+                                           uint64_t successors);
+
+/*
  * The count between two vertices as it stands in the sheet; on a valid sheet, the number of paths. Refused by 1, 2, 3 (from or to
  * is n or more). value: the count.
  */

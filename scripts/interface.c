@@ -18,14 +18,32 @@ static int accepted(void) {
            is(lugloquat_recount(1, sheet, 2), LUGLOQUAT_ACCEPTED, 0) && is(lugloquat_validate(1, sheet, 2), LUGLOQUAT_ACCEPTED, 1);
 }
 
+/* Two vertices: an edge inserted and deleted, alone and by masks; and what is refused on the way. */
+static int edited(void) {
+    uint64_t sheet[LUGLOQUAT_WORD_COUNT(2)];
+    return is(lugloquat_empty(2, sheet, 6), LUGLOQUAT_ACCEPTED, 0) &&
+           is(lugloquat_insert_edge(2, sheet, 6, 0, 1), LUGLOQUAT_ACCEPTED, 1) && sheet[0] == 2 && sheet[3] == 1 &&
+           is(lugloquat_insert_edge(2, sheet, 6, 1, 0), LUGLOQUAT_REFUSED_CYCLE, 0) &&
+           is(lugloquat_delete_edge(2, sheet, 6, 0, 1), LUGLOQUAT_ACCEPTED, 0) && sheet[0] == 0 && sheet[3] == 0 &&
+           is(lugloquat_delete_edge(2, sheet, 6, 0, 1), LUGLOQUAT_REFUSED_ABSENT, 0) &&
+           is(lugloquat_insert_edges_at(2, sheet, 6, 0, 2, 0), LUGLOQUAT_ACCEPTED, 1) && sheet[1] == 1 && sheet[4] == 1 &&
+           is(lugloquat_insert_edges_at(2, sheet, 6, 0, 2, 0), LUGLOQUAT_REFUSED_PRESENT, 0) &&
+           is(lugloquat_delete_edges_at(2, sheet, 6, 0, 2, 0), LUGLOQUAT_ACCEPTED, 0) && sheet[1] == 0 && sheet[4] == 0 &&
+           is(lugloquat_delete_edges_at(2, sheet, 6, 0, 4, 0), LUGLOQUAT_REFUSED_STRAY_BIT, 0);
+}
+
 /* A sheet of no words may be NULL. */
 static int refused(void) {
     return is(lugloquat_empty(0, NULL, 0), LUGLOQUAT_REFUSED_VERTICES, 0) &&
+           is(lugloquat_insert_edge(65, NULL, 0, 0, 0), LUGLOQUAT_REFUSED_VERTICES, 0) &&
+           is(lugloquat_delete_edge(2, NULL, 0, 0, 0), LUGLOQUAT_REFUSED_LENGTH, 0) &&
+           is(lugloquat_insert_edges_at(0, NULL, 0, 0, 0, 0), LUGLOQUAT_REFUSED_VERTICES, 0) &&
+           is(lugloquat_delete_edges_at(64, NULL, 0, 0, 0, 0), LUGLOQUAT_REFUSED_LENGTH, 0) &&
            is(lugloquat_path_count(65, NULL, 0, 0, 0), LUGLOQUAT_REFUSED_VERTICES, 0) &&
            is(lugloquat_recount(1, NULL, 0), LUGLOQUAT_REFUSED_LENGTH, 0) &&
            is(lugloquat_validate(64, NULL, 0), LUGLOQUAT_REFUSED_LENGTH, 0);
 }
 
 int main(void) {
-    return !(accepted() && refused());
+    return !(accepted() && edited() && refused());
 }

@@ -9,17 +9,19 @@
 //! word has changed.
 //!
 //! ```
-//! use lugloquat::{empty, path_count, recount, validate, word_count, Reason};
+//! use lugloquat::{delete_edges_at, empty, insert_edge, insert_edges_at, path_count, validate, word_count, Reason};
 //!
-//! let mut sheet = [0; word_count(4)];
-//! empty(4, &mut sheet)?;
-//! (sheet[0], sheet[1], sheet[2]) = (0b0110, 0b1000, 0b1000);
-//! assert_eq!(validate(4, &sheet), Ok(0));
-//! assert_eq!(recount(4, &mut sheet), Ok(4));
-//! assert_eq!(path_count(4, &sheet, 0, 3), Ok(2));
-//! assert_eq!(validate(4, &sheet), Ok(1));
-//! sheet[3] = 0b0001;
-//! assert_eq!(recount(4, &mut sheet).unwrap_err().reason, Reason::Cycle);
+//! let mut sheet = [0; word_count(5)];
+//! empty(5, &mut sheet)?;
+//! for (from, to) in [(0, 1), (0, 2), (1, 3), (2, 3)] {
+//!     insert_edge(5, &mut sheet, from, to)?;
+//! }
+//! assert_eq!(path_count(5, &sheet, 0, 3), Ok(2));
+//! assert_eq!(insert_edge(5, &mut sheet, 3, 0).unwrap_err().reason, Reason::Cycle);
+//! assert_eq!(insert_edges_at(5, &mut sheet, 4, 1 << 1, 1 << 3), Ok(6));
+//! assert_eq!(path_count(5, &sheet, 0, 3), Ok(3));
+//! assert_eq!(delete_edges_at(5, &mut sheet, 4, 1 << 1, 1 << 3), Ok(4));
+//! assert_eq!(validate(5, &sheet), Ok(1));
 //! # Ok::<(), lugloquat::Refusal>(())
 //! ```
 #![no_std]
@@ -50,6 +52,56 @@ const _: () = assert!(word_count(VERTICES) == WORDS);
 pub fn empty(n: usize, sheet: &mut [u64]) -> Result<u64, Refusal> {
     // SAFETY: the words are those of the slice, lent for the call alone.
     unsafe { sys::lugloquat_empty(n, sheet.as_mut_ptr(), sheet.len()) }.result()
+}
+
+/// Inserts the edge from one vertex to another and brings every count up to date, as [`insert_edges_at`] does at the vertex `from`
+/// with no predecessor and the one successor `to`; but a `to` of n or more is [`Reason::Vertex`]. The value is the number of set bits
+/// in all rows afterwards.
+///
+/// Refused as [`Reason::Vertices`], [`Reason::Length`], [`Reason::Vertex`], [`Reason::SelfLoop`], [`Reason::Present`],
+/// [`Reason::Cycle`], in this order.
+pub fn insert_edge(n: usize, sheet: &mut [u64], from: usize, to: usize) -> Result<u64, Refusal> {
+    // SAFETY: the words are those of the slice, lent for the call alone.
+    unsafe { sys::lugloquat_insert_edge(n, sheet.as_mut_ptr(), sheet.len(), from, to) }.result()
+}
+
+/// Deletes the edge from one vertex to another and brings every count up to date, as [`delete_edges_at`] does at the vertex `from`
+/// with no predecessor and the one successor `to`; but a `to` of n or more is [`Reason::Vertex`]. The value is the number of set bits
+/// in all rows afterwards.
+///
+/// Refused as [`Reason::Vertices`], [`Reason::Length`], [`Reason::Vertex`], [`Reason::Absent`], in this order.
+pub fn delete_edge(n: usize, sheet: &mut [u64], from: usize, to: usize) -> Result<u64, Refusal> {
+    // SAFETY: the words are those of the slice, lent for the call alone.
+    unsafe { sys::lugloquat_delete_edge(n, sheet.as_mut_ptr(), sheet.len(), from, to) }.result()
+}
+
+/// Inserts the edges from each vertex of `predecessors` to v and from v to each vertex of `successors`, all at once, and brings every
+/// count up to date. Bit j of a mask is 1 exactly if vertex j is in it; with two empty masks the call is accepted, after
+/// [`Reason::Vertices`], [`Reason::Length`] and [`Reason::Vertex`], and changes nothing. The value is the number of set bits in all
+/// rows afterwards.
+///
+/// Let F(i) be the sum of count(i, a) over the predecessors a, and T(j) the sum of count(b, j) over the successors b. The call adds
+/// count(i, v) × T(j) + F(i) × count(v, j) + F(i) × T(j) to count(i, j), modulo 2 to the 64, all from the counts before it.
+/// [`Reason::Cycle`] says that some count(v, a), count(b, v) or count(b, a) is not 0; on a valid sheet that is so exactly if there
+/// would be a cycle. A valid sheet stays valid; of the paths of any other nothing is claimed.
+///
+/// Refused as [`Reason::Vertices`], [`Reason::Length`], [`Reason::Vertex`], [`Reason::StrayBit`], [`Reason::SelfLoop`],
+/// [`Reason::Present`], [`Reason::Cycle`], in this order, each looked for in all of these edges before the next.
+pub fn insert_edges_at(n: usize, sheet: &mut [u64], v: usize, predecessors: u64, successors: u64) -> Result<u64, Refusal> {
+    // SAFETY: the words are those of the slice, lent for the call alone.
+    unsafe { sys::lugloquat_insert_edges_at(n, sheet.as_mut_ptr(), sheet.len(), v, predecessors, successors) }.result()
+}
+
+/// Deletes the edges from each vertex of `predecessors` to v and from v to each vertex of `successors`, all at once, and brings every
+/// count up to date: with F and T as for [`insert_edges_at`] it takes count(i, v) × T(j) + F(i) × count(v, j) − F(i) × T(j) off
+/// count(i, j), modulo 2 to the 64, all from the counts before it. The value is the number of set bits in all rows afterwards. A
+/// valid sheet stays valid; two empty masks change nothing. On a sheet that is not valid an edge from v to itself may be there: it
+/// may be in one mask or in both, and in both it counts in F and in T.
+///
+/// Refused as [`Reason::Vertices`], [`Reason::Length`], [`Reason::Vertex`], [`Reason::StrayBit`], [`Reason::Absent`], in this order.
+pub fn delete_edges_at(n: usize, sheet: &mut [u64], v: usize, predecessors: u64, successors: u64) -> Result<u64, Refusal> {
+    // SAFETY: the words are those of the slice, lent for the call alone.
+    unsafe { sys::lugloquat_delete_edges_at(n, sheet.as_mut_ptr(), sheet.len(), v, predecessors, successors) }.result()
 }
 
 /// The count from one vertex to another as it stands in the sheet; on a valid sheet, the number of paths.

@@ -28,6 +28,24 @@ impl Answer {
 
 extern "C" {
     pub fn lugloquat_empty(n: usize, sheet: *mut u64, words: usize) -> Answer;
+    pub fn lugloquat_insert_edge(n: usize, sheet: *mut u64, words: usize, from: usize, to: usize) -> Answer;
+    pub fn lugloquat_delete_edge(n: usize, sheet: *mut u64, words: usize, from: usize, to: usize) -> Answer;
+    pub fn lugloquat_insert_edges_at(
+        n: usize,
+        sheet: *mut u64,
+        words: usize,
+        v: usize,
+        predecessors: u64,
+        successors: u64,
+    ) -> Answer;
+    pub fn lugloquat_delete_edges_at(
+        n: usize,
+        sheet: *mut u64,
+        words: usize,
+        v: usize,
+        predecessors: u64,
+        successors: u64,
+    ) -> Answer;
     pub fn lugloquat_path_count(n: usize, sheet: *const u64, words: usize, from: usize, to: usize) -> Answer;
     pub fn lugloquat_recount(n: usize, sheet: *mut u64, words: usize) -> Answer;
     pub fn lugloquat_validate(n: usize, sheet: *const u64, words: usize) -> Answer;

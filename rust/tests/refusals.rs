@@ -31,18 +31,9 @@ fn numbers_1_to_14_have_a_reason() {
 #[test]
 fn a_refusal_says_why() {
     let refused = validate(65, &[]).unwrap_err();
-    assert_eq!(
-        refused,
-        Refusal {
-            reason: Reason::Vertices,
-            place: 0
-        }
-    );
+    assert_eq!(refused, Refusal { reason: Reason::Vertices, place: 0 });
     assert_eq!(refused.to_string(), "refused 1: n is not 1 to 64");
-    let record = Refusal {
-        reason: Reason::Cycle,
-        place: 2,
-    };
+    let record = Refusal { reason: Reason::Cycle, place: 2 };
     assert_eq!(record.to_string(), "record 2 refused 8: a cycle");
 }
 

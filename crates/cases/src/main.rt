@@ -1,6 +1,6 @@
-// Runs document 01's cases of the empty sheet, the counts, the recount and the validation, through the public calls of crate
-// sheet, and prints what the calls answer: a heading for each case, then a line for each call. The program knows no answer;
-// the file stdout beside it does.
+// Runs document 01's cases of the empty sheet, the edits, the counts, the recount and the validation, through the public calls of
+// the crates sheet and edit, and prints what the calls answer: a heading for each case, then a line for each call. The program
+// knows no answer; the file stdout beside it does.
 mod buffer;
 mod calls;
 mod lines;
@@ -40,6 +40,7 @@ fn one_vertex() {
     calls::path_count(1, &words, FAR_TOO_MANY, 0);
     calls::validate(1, &words);
     lines::words(&words);
+    calls::insert_edge(1, &mut words, 0, 0);
 }
 
 // The diamond's rows, 0 to 1, 0 to 2, 1 to 3 and 2 to 3, over garbage counts; recounted twice.
@@ -54,6 +55,65 @@ fn diamond() -> [u64; 30] {
     calls::validate(5, &words);
     calls::recount(5, &mut words);
     words
+}
+
+// The diamond by edits, from the empty sheet: an edge back closes a cycle, alone or by way of vertex 4; a way round by vertex 4 and
+// its end. The words at the end are those of the diamond.
+fn edits() -> [u64; 30] {
+    lines::heading(b"diamond by edits");
+    let mut words = [GARBAGE; 30];
+    calls::empty(5, &mut words);
+    calls::insert_edge(5, &mut words, 0, 1);
+    calls::insert_edge(5, &mut words, 0, 2);
+    calls::insert_edge(5, &mut words, 1, 3);
+    calls::insert_edge(5, &mut words, 2, 3);
+    calls::path_count(5, &words, 0, 3);
+    calls::insert_edge(5, &mut words, 3, 0);
+    calls::insert_edges_at(5, &mut words, 4, 0b01000, 0b00001);
+    calls::insert_edges_at(5, &mut words, 4, 0b00010, 0b00010);
+    calls::insert_edges_at(5, &mut words, 4, 0b00010, 0b01000);
+    calls::path_count(5, &words, 0, 3);
+    calls::validate(5, &words);
+    calls::delete_edges_at(5, &mut words, 4, 0b00010, 0b01000);
+    words
+}
+
+// A line that says whether two sheets of five vertices have the same words.
+fn same(left: [u64; 30], right: [u64; 30]) {
+    lines::number(b"same words ", buffer::begins(&left, &right) as u64);
+    lines::end();
+}
+
+// Edits of the diamond that are refused, by each number that an edit has, the first condition before the next.
+fn refused_edits(mut words: [u64; 30]) {
+    lines::heading(b"diamond, refused edits");
+    calls::insert_edge(4, &mut words, 0, 4);
+    calls::insert_edge(5, &mut words, 5, 0);
+    calls::delete_edge(5, &mut words, 0, 5);
+    calls::insert_edges_at(5, &mut words, 5, 0b100000, 0);
+    calls::insert_edges_at(5, &mut words, 0, 0b000001, 0b100010);
+    calls::insert_edges_at(5, &mut words, 0, 0b00001, 0b00010);
+    calls::insert_edges_at(5, &mut words, 0, 0b01000, 0b00010);
+    calls::insert_edge(5, &mut words, 0, 1);
+    calls::delete_edge(5, &mut words, 1, 0);
+    calls::delete_edges_at(5, &mut words, 3, 0b00111, 0);
+    calls::insert_edges_at(5, &mut words, 2, 0, 0);
+    calls::delete_edges_at(5, &mut words, 2, 0, 0);
+}
+
+// Sheets that are not valid: an edge from a vertex to itself that both masks name, counts that wrap, and a stray bit, which stays and
+// counts.
+fn damaged_edits() {
+    lines::heading(b"edits of sheets that are not valid");
+    let mut looped = [1, 5];
+    calls::delete_edges_at(1, &mut looped, 0, 1, 1);
+    lines::words(&looped);
+    let mut large = [0, 0, u64::MAX, u64::MAX, 0, 2];
+    calls::insert_edge(2, &mut large, 0, 1);
+    lines::words(&large);
+    let mut stray = [0b100, 0, 1, 0, 0, 1];
+    calls::insert_edge(2, &mut stray, 0, 1);
+    lines::words(&stray);
 }
 
 // The diamond's words with the count from 0 to 3, word 5 + 3, raised by one; then recounted.
@@ -112,6 +172,11 @@ fn most_edges() {
     calls::path_count(64, &words, 0, 63);
     calls::path_count(64, &words, 63, 0);
     calls::validate(64, &words);
+    lines::heading(b"every edge up by edits");
+    calls::empty(64, &mut words);
+    calls::join_upward(64, &mut words);
+    calls::path_count(64, &words, 0, 63);
+    calls::recount(64, &mut words);
     lines::heading(b"every edge up with a wrong count");
     buffer::add(&mut words, 127, u64::MAX);
     calls::validate(64, &words);
@@ -134,7 +199,11 @@ fn made() {
 fn main() {
     wrong_sizes();
     one_vertex();
-    wrong_count(diamond());
+    let words = diamond();
+    wrong_count(words);
+    same(edits(), words);
+    refused_edits(words);
+    damaged_edits();
     cycles();
     stray_bits();
     most_edges();

@@ -8,3 +8,7 @@ pub mod Counting
 pub mod Bound
 pub mod Edges
 pub mod Examples
+pub mod Insertion
+pub mod Editing
+pub mod Remainders
+pub mod Using

@@ -1,6 +1,6 @@
--- Lists put together from lists: what is in them, how long they are, and when their entries all differ. With that, what `Exactly` pins down.
+-- Lists put together from lists: what is in them, how long they are, and when their entries all differ. With that, the laws of `Exactly`.
 -- Assumes nothing.
-use mathlib.Core.Path.{_≡_, refl, sym, ap, _∙_}
+use mathlib.Core.Path.{_≡_, refl, sym, ap, ap₂, _∙_}
 use mathlib.Core.Logic.{_⊎_, inl, inr}
 use mathlib.Core.List.{List, [], _∷_, _++_}
 use Prim.Native.Nat.{ℕ, zero, suc, _+_, _≤_, _<_, zero-le}
@@ -97,6 +97,34 @@ module _ {A : Type 0} where
   when-distinct (yes p) l h = h
   when-distinct (no d) l h = tt
 
+  -- ---- the entries of a list that are a Q
+
+  unfoldable pub keep : {Q : A → Type 0} → ((x : A) → Dec (Q x)) → List A → List A
+  keep d [] = []
+  keep d (x ∷ l) = when (d x) (x ∷ []) ++ keep d l
+
+  keep-in : {Q : A → Type 0} (d : (x : A) → Dec (Q x)) (y : A) (l : List A) → Q y → y isIn l → y isIn keep d l
+  unfolding keep
+  keep-in d y [] q m = m
+  keep-in d y (x ∷ l) q (inl e) = in-left y (when (d x) (x ∷ [])) (keep d l) (when-in (d x) (x ∷ []) y (rw e at q) (inl e))
+  keep-in d y (x ∷ l) q (inr m) = in-right y (when (d x) (x ∷ [])) (keep d l) (keep-in d y l q m)
+
+  keep-of : {Q : A → Type 0} (d : (x : A) → Dec (Q x)) (y : A) (l : List A) → y isIn keep d l → Q y × (y isIn l)
+  unfolding keep
+  keep-of d y [] m = absurd m
+  keep-of d y (x ∷ l) m =
+      elim (in-either y (when (d x) (x ∷ [])) (keep d l) m) [
+        | inl p ↦ let r = when-of (d x) (x ∷ []) y p in elim (r .1) [ inl e ↦ (rw e (r .0), inl e) | inr q ↦ absurd q ]
+        | inr p ↦ let r = keep-of d y l p in (r .0, inr (r .1))
+      ]
+
+  keep-distinct : {Q : A → Type 0} (d : (x : A) → Dec (Q x)) (l : List A) → Distinct l → Distinct (keep d l)
+  unfolding keep
+  keep-distinct d [] h = tt
+  keep-distinct d (x ∷ l) h =
+      append-distinct (when (d x) (x ∷ [])) (keep d l) (when-distinct (d x) (x ∷ []) ((λ m. m), tt)) (keep-distinct d l (h .1))
+      (λ y p q. elim (when-of (d x) (x ∷ []) y p .1) [ inl e ↦ h .0 (rw e at (keep-of d y l q .1)) | inr r ↦ r ])
+
   -- ---- a before each list of a list of lists
 
   unfoldable pub each : A → List (List A) → List (List A)
@@ -181,3 +209,23 @@ module _ {A : Type 0} where
   -- what is a P exactly where it is a Q is as many
   pub exactly-cong : {P Q : A → Type 0} {k : ℕ} → ((x : A) → P x → Q x) → ((x : A) → Q x → P x) → Exactly P k → Exactly Q k
   exactly-cong f g r = record { list = r .list; once = r .once; all = λ x q. r .all x (g x q); only = λ x m. f x (r .only x m); many = r .many }
+
+  -- of the things that are a P, those that are a Q too
+  pub exactly-keep : {P Q : A → Type 0} {k : ℕ} (d : (x : A) → Dec (Q x)) (r : Exactly P k) → Exactly (λ x. P x × Q x) (length (keep d (r .list)))
+  exactly-keep d r = record {
+    list = keep d (r .list);
+    once = keep-distinct d (r .list) (r .once);
+    all = λ x p. keep-in d x (r .list) (p .1) (r .all x (p .0));
+    only = λ x m. let s = keep-of d x (r .list) m in (r .only x (s .1), s .0);
+    many = refl;
+  }
+
+  -- where nothing is both a P and a Q, what is the one or the other is as many as both together
+  pub exactly-either : {P Q : A → Type 0} {j k : ℕ} → ((x : A) → P x → Q x → ⊥) → Exactly P j → Exactly Q k → Exactly (λ x. P x ⊎ Q x) (j + k)
+  exactly-either h p q = record {
+    list = p .list ++ q .list;
+    once = append-distinct (p .list) (q .list) (p .once) (q .once) (λ x m s. h x (p .only x m) (q .only x s));
+    all = λ x c. elim c [ inl m ↦ in-left x (p .list) (q .list) (p .all x m) | inr m ↦ in-right x (p .list) (q .list) (q .all x m) ];
+    only = λ x m. elim (in-either x (p .list) (q .list) m) [ inl s ↦ inl (p .only x s) | inr s ↦ inr (q .only x s) ];
+    many = length-append (p .list) (q .list) ∙ ap₂ (λ x y. x + y) (p .many) (q .many);
+  }

@@ -21,6 +21,13 @@ mul-pos-both zero b h = absurd (omega (arith, zero-mul b))
 mul-pos-both (suc a) zero h = absurd (omega (arith, mul-zero (suc a)))
 mul-pos-both (suc a) (suc b) h = (omega arith, omega arith)
 
+-- a sum of products above 0 has a term whose factors are both above 0
+pub some-product : (n : ℕ) (f g : ℕ → ℕ) → 0 < sum n (λ b. f b * g b) → (b : ℕ) × (b < n) × (0 < f b) × (0 < g b)
+some-product n f g h =
+    let r = some-term n (λ b. f b * g b) h in
+    let p = mul-pos-both (f (r .0)) (g (r .0)) (r .2) in
+    (r .0, r .1, p .0, p .1)
+
 module _ (n : ℕ) (w : ℕ → ℕ → ℕ) where
   -- C i j is 1 for the vertex alone if i is j, and C b j for each edge from i to b
   abbrev pub Recurrence : (ℕ → ℕ → ℕ) → Type 0
@@ -51,13 +58,6 @@ module _ (n : ℕ) (w : ℕ → ℕ → ℕ) where
 
   edge-pos : (i : ℕ) (f : ℕ → ℕ) (b : ℕ) → b < n → Edge n w i b → 0 < f b → 0 < sum n (λ b. w i b * f b)
   edge-pos i f b h p q = omega (arith, term-le n (λ b. w i b * f b) b h, mul-pos p q)
-
-  -- a sum above 0 has an edge to a vertex whose term is above 0
-  edge-term : (i : ℕ) (f : ℕ → ℕ) → 0 < sum n (λ b. w i b * f b) → (b : ℕ) × (b < n) × Edge n w i b × (0 < f b)
-  edge-term i f h =
-      let r = some-term n (λ b. w i b * f b) h in
-      let p = mul-pos-both (w i (r .0)) (f (r .0)) (r .2) in
-      (r .0, r .1, p .0, p .1)
 
   -- ---- the recurrence by the first edge
 
@@ -132,7 +132,7 @@ module _ (n : ℕ) (w : ℕ → ℕ → ℕ) where
       elim (ℕ-discrete i j) [
         | yes e ↦ ([], e)
         | no d ↦
-            let r = edge-term i (λ b. walks n w k b j) (omega (arith, delta-diff i j d)) in
+            let r = some-product n (w i) (λ b. walks n w k b j) (omega (arith, delta-diff i j d)) in
             reach-step n w (r .1) (r .2) (reach-walks k (r .0) j (r .3))
       ]
 
@@ -144,7 +144,7 @@ module _ (n : ℕ) (w : ℕ → ℕ → ℕ) where
   pub pathCount-self : Acyclic n w → (s : ℕ) → s < n → pathCount n w s s ≡ 1
   pathCount-self a s h =
       elim (decLt 0 (sum n (λ b. w s b * pathCount n w b s))) [
-        | yes p ↦ let r = edge-term s (λ b. pathCount n w b s) p in absurd (a (cycle-of n w s (r .0) h (r .1) (r .2) (reach-pathCount (r .0) s (r .3))))
+        | yes p ↦ let r = some-product n (w s) (λ b. pathCount n w b s) p in absurd (a (cycle-of n w s (r .0) h (r .1) (r .2) (reach-pathCount (r .0) s (r .3))))
         | no z ↦ omega (arith, pathCount-recurrence a s s h h, delta-refl s)
       ]
 

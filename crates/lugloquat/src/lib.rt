@@ -2,6 +2,8 @@
 // declares what this file exports; a slice crosses as a pointer and a number of words.
 ghost use mathlib.Core.Path.{_≡_};
 ghost use Rattle.sheet.specs.Calls.{emptyAnswer, emptyAfter, pathCountAnswer, Recount, Validate};
+ghost use Rattle.edit.specs.Edit.{insertEdge, deleteEdge, insertEdgesAt, deleteEdgesAt};
+ghost use Rattle.edit.specs.Outcome.{editAnswer, editAfter};
 use sheet::Answer;
 
 // The empty sheet of n vertices, whatever the words were. Refused by 1, 2. The value is 0.
@@ -11,6 +13,68 @@ pub extern "C" fn lugloquat_empty(n: usize, sheet: &mut [u64]) -> Answer
     ensures words { λ r. ⌜ now (sheet .exit) ≡ emptyAfter n (now (sheet .entry)) ⌝ }
 {
     sheet::empty(n, sheet)
+}
+
+// Inserts the edge from one vertex to another. Refused by 1, 2, 3, 5, 6, 8. The value is the number of set bits in all
+// rows afterwards.
+#[no_mangle]
+pub extern "C" fn lugloquat_insert_edge(
+    n: usize,
+    sheet: &mut [u64],
+    from: usize,
+    to: usize,
+) -> Answer
+    ensures answer { λ r. ⌜ r ≡ editAnswer (insertEdge n from to) (now (sheet .entry)) ⌝ }
+    ensures words { λ r. ⌜ now (sheet .exit) ≡ editAfter (insertEdge n from to) (now (sheet .entry)) ⌝ }
+{
+    edit::insert_edge(n, sheet, from, to)
+}
+
+// Deletes the edge from one vertex to another. Refused by 1, 2, 3, 7. The value is the number of set bits in all
+// rows afterwards.
+#[no_mangle]
+pub extern "C" fn lugloquat_delete_edge(
+    n: usize,
+    sheet: &mut [u64],
+    from: usize,
+    to: usize,
+) -> Answer
+    ensures answer { λ r. ⌜ r ≡ editAnswer (deleteEdge n from to) (now (sheet .entry)) ⌝ }
+    ensures words { λ r. ⌜ now (sheet .exit) ≡ editAfter (deleteEdge n from to) (now (sheet .entry)) ⌝ }
+{
+    edit::delete_edge(n, sheet, from, to)
+}
+
+// Inserts the edges from each vertex of one mask to v and from v to each vertex of the other. Refused by 1, 2, 3, 4, 5, 6, 8.
+// The value is the number of set bits in all rows afterwards.
+#[no_mangle]
+pub extern "C" fn lugloquat_insert_edges_at(
+    n: usize,
+    sheet: &mut [u64],
+    v: usize,
+    predecessors: u64,
+    successors: u64,
+) -> Answer
+    ensures answer { λ r. ⌜ r ≡ editAnswer (insertEdgesAt n v predecessors successors) (now (sheet .entry)) ⌝ }
+    ensures words { λ r. ⌜ now (sheet .exit) ≡ editAfter (insertEdgesAt n v predecessors successors) (now (sheet .entry)) ⌝ }
+{
+    edit::insert_edges_at(n, sheet, v, predecessors, successors)
+}
+
+// Deletes the edges from each vertex of one mask to v and from v to each vertex of the other. Refused by 1, 2, 3, 4, 7.
+// The value is the number of set bits in all rows afterwards.
+#[no_mangle]
+pub extern "C" fn lugloquat_delete_edges_at(
+    n: usize,
+    sheet: &mut [u64],
+    v: usize,
+    predecessors: u64,
+    successors: u64,
+) -> Answer
+    ensures answer { λ r. ⌜ r ≡ editAnswer (deleteEdgesAt n v predecessors successors) (now (sheet .entry)) ⌝ }
+    ensures words { λ r. ⌜ now (sheet .exit) ≡ editAfter (deleteEdgesAt n v predecessors successors) (now (sheet .entry)) ⌝ }
+{
+    edit::delete_edges_at(n, sheet, v, predecessors, successors)
 }
 
 // The count from one vertex to another as it stands in the sheet. Refused by 1, 2, 3. The value is the count.

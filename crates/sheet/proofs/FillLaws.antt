@@ -1,14 +1,14 @@
 -- The laws of lists of which a run of places is overwritten. Assumes nothing.
 use mathlib.Core.Path.{_≡_, refl, sym, ap, ap₂, subst, _∙_}
-use mathlib.Core.Logic.{_⊎_, ⊎-elim}
+use mathlib.Core.Logic.{_⊎_, inl, inr, ⊎-elim}
 use mathlib.Core.List.{List}
-use Prim.Native.Nat.{ℕ, zero, suc, _+_, _≤_, _<_}
+use Prim.Native.Nat.{ℕ, zero, suc, _+_, _-_, _≤_, _<_}
 use native.Mathlib.Nat.{not-suc-le-zero}
-use native.Mathlib.Decide.{ℕ-discrete}
+use native.Mathlib.Decide.{ℕ-discrete, decLt}
 use native.Mathlib.Numerals.{add-one}
 use native.Mathlib.Omega.{arith}
 use lib.ListN.{length, getD, set, length-set}
-use lib.Seq.{getD-set-same, getD-set-other}
+use lib.Seq.{getD-set-same, getD-set-other, ext-getD}
 use Rattle.sheet.specs.Fill.{puts, over}
 
 module _ (l : List ℕ) (p f : ℕ → ℕ) where
@@ -53,3 +53,19 @@ over-in l b f m j h q = puts-in l (λ k. b + k) f m j q (omega arith) (λ i x y 
 
 pub over-out : (l : List ℕ) (b : ℕ) (f : ℕ → ℕ) (m k : ℕ) → (k < b) ⊎ (b + m ≤ k) → getD (over l b f m) k 0 ≡ getD l k 0
 over-out l b f m k h = puts-out l (λ j. b + j) f m k (λ j q e. ⊎-elim (λ r. omega arith) (λ r. omega arith) h)
+
+-- words over which the same are stored stay as they are
+pub over-same : (l : List ℕ) (b : ℕ) (f : ℕ → ℕ) (m : ℕ) → b + m ≤ length l → ((j : ℕ) → j < m → f j ≡ getD l (b + j) 0) → l ≡ over l b f m
+over-same l b f m h e = ext-getD 0 l (over l b f m) (sym (length-puts l (λ j. b + j) f m)) at
+  where
+    at : (k : ℕ) → k < length l → getD l k 0 ≡ getD (over l b f m) k 0
+    at k q =
+        elim (decLt k b) [
+          | yes p ↦ sym (over-out l b f m k (inl p))
+          | no p ↦ elim (decLt k (b + m)) [
+            | no o ↦ sym (over-out l b f m k (inr (omega arith)))
+            | yes o ↦
+                let p′ : b + (k - b) ≡ k = omega arith in
+                subst (λ (x : ℕ). getD l x 0 ≡ getD (over l b f m) x 0) p′ (sym (over-in l b f m (k - b) h (omega arith) ∙ e (k - b) (omega arith)))
+          ]
+        ]

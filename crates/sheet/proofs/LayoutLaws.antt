@@ -4,7 +4,7 @@ use mathlib.Core.Path.{_≡_, refl, sym, ap, ap₂, subst, _∙_}
 use mathlib.Core.Logic.{_⊎_, inl, inr}
 use mathlib.Core.List.{List}
 use Prim.Native.Nat.{ℕ, zero, suc, _+_, _-_, _*_, _/_, _%_, _≤_, _<_}
-use native.Mathlib.Nat.{not-suc-le-zero, le-of-suc-le-suc, div-lt-iff-lt-mul, mod-lt, div-add-mod', mul-le-mul, mul-le-mul-right, suc-mul}
+use native.Mathlib.Nat.{not-suc-le-zero, le-of-suc-le-suc, div-lt-iff-lt-mul, mod-lt, div-add-mod', le-of-lt, mul-le-mul, mul-le-mul-right, suc-mul}
 use native.Mathlib.Decide.{decLt}
 use native.Mathlib.Omega.{arith}
 use borrow.Author.Tests.{lt-ltb, le-ltb}
@@ -17,6 +17,17 @@ use Rattle.sheet.specs.Layout.{size, rowAt, countAt, build, redoneWord, 
 
 pub square-le : (n : ℕ) → n ≤ 64 → n * n ≤ 4096
 square-le n h = mul-le-mul h h
+
+-- the words of a sheet tell its vertices: one vertex more is a word more at least
+size-lt : (n k : ℕ) → n < k → size n < size k
+size-lt n k h = omega (arith, mul-le-mul (le-of-lt h) (le-of-lt h))
+
+pub size-only : (n k : ℕ) → size n ≡ size k → n ≡ k
+size-only n k e =
+    elim (decLt n k) [
+      | yes l ↦ absurd (omega (arith, size-lt n k l))
+      | no l ↦ elim (decLt k n) [ yes q ↦ absurd (omega (arith, size-lt k n q)) | no q ↦ omega arith ]
+    ]
 
 -- a place among the counts is within a sheet
 pub place-lt : (n i j : ℕ) → i < n → j < n → n + i * n + j < size n

@@ -15,20 +15,19 @@ use Rattle.word.specs.Bit.{bit, bitCount}
 use Rattle.word.proofs.BitLaws.{bit-zero}
 use Rattle.word.proofs.CountLaws.{bitCount-below}
 use Rattle.graph.specs.Graph.{Exactly, IsPath, Cycle}
-use Rattle.graph.proofs.Lists.{exactly-cong}
 use Rattle.graph.proofs.Bound.{bound}
 use Rattle.graph.proofs.Edges.{edges-le}
-use Rattle.graph.proofs.Walks.{edgeless-acyclic, path-cong, cycle-cong}
+use Rattle.graph.proofs.Walks.{edgeless-acyclic, cycle-cong, paths-cong}
 use Rattle.sheet.specs.declared.answer.Answer.{Answer}
 use Rattle.sheet.specs.Table.{_gives_, First}
-use Rattle.sheet.specs.Answers.{decided}
+use Rattle.sheet.specs.Answers.{answer, decided}
 use Rattle.sheet.specs.Layout.{Shape, size, rowAt, countAt, edgeAt, emptySheet, setBits}
 use Rattle.sheet.specs.Conditions.{BadVertices, BadLength, StrayRow, vertexConditions, rowConditions}
 use Rattle.sheet.specs.Valid.{Valid}
 use Rattle.sheet.specs.Calls.{emptyAnswer, emptyAfter, pathCountAnswer, recountConditions, Recounted, Recount, validateConditions, Validate}
 use Rattle.sheet.specs.Internal.{successorsSum, RowHolds}
-use Rattle.sheet.proofs.TableLaws.{first-only, first-cong}
-use Rattle.sheet.proofs.ShapeLaws.{accepted-shape, shape-not, shape-passed}
+use Rattle.sheet.proofs.TableLaws.{first-only, first-past, first-rest, first-last, first-cong}
+use Rattle.sheet.proofs.ShapeLaws.{accepted-shape, shape-passed}
 use Rattle.sheet.proofs.StrayLaws.{rows-iff}
 use Rattle.sheet.proofs.AnswerLaws.{answer-ext}
 use Rattle.sheet.proofs.LayoutLaws.{place-lt, length-redone, row-redone, count-redone}
@@ -86,7 +85,7 @@ empty-leaves n s z =
 pub path-count-exact : (n : ℕ) (s : List ℕ) (i j : ℕ) → Valid n s → i < n → j < n → Exactly (IsPath n (edgeAt s) i j) (pathCountAnswer n s i j .value)
 path-count-exact n s i j v hi hj =
     let z : pathCountAnswer n s i j .number ≡ 0
-    = path-count-table n s i j 0 .1 (shape-passed n s (v .shape) (vertexConditions n i j) 0 (inr (λ c. elim c [ inl l ↦ omega arith | inr l ↦ omega arith ], refl))) in
+    = path-count-table n s i j 0 .1 (shape-passed n s (v .shape) (vertexConditions n i j []) 0 (inr (λ c. elim c [ inl l ↦ omega arith | inr l ↦ omega arith ], refl))) in
     subst (Exactly (IsPath n (edgeAt s) i j)) (sym (ap (λ (k : ℕ). decided k (countAt n s i j) 0) z)) (v .counts i j hi hj)
 
 -- and that is at most 2 ^ (n - 2) between two different vertices, so that with 64 vertices it fits a word
@@ -107,17 +106,7 @@ valid-edges-le n s v =
 -- once the earlier checks pass, the number is 8 exactly if the rows' edges have a cycle
 pub recount-cycle-iff : (n : ℕ) (s : List ℕ) (r : Answer) (t : List ℕ) → Recount n s r t → ¬ (BadVertices n) → ¬ (BadLength n s) → ¬ (StrayRow n s)
     → (r .number ≡ 8) ↔ Cycle n (edgeAt s)
-recount-cycle-iff n s r t h a b c = (
-  λ e. go (h .number) e,
-  λ q. first-only (recountConditions n s) (r .number) 8 (h .number) (inr (a, inr (b, inr (c, inl (q, refl))))),
-)
-  where
-    go : First (recountConditions n s) (r .number) → r .number ≡ 8 → Cycle n (edgeAt s)
-    go (inl p) e = absurd (a (p .0))
-    go (inr (_, inl p)) e = absurd (b (p .0))
-    go (inr (_, inr (_, inl p))) e = absurd (c (p .0))
-    go (inr (_, inr (_, inr (_, inl p)))) e = p .0
-    go (inr (_, inr (_, inr (_, inr p)))) e = absurd (omega (arith, p .1, e))
+recount-cycle-iff n s r t h a b c = first-last (first-rest c (first-rest b (first-rest a (h .number))))
 
 -- what an accepted recount has not found
 record Sound (n : ℕ) (s : List ℕ) : Type 0 where
@@ -126,11 +115,9 @@ record Sound (n : ℕ) (s : List ℕ) : Type 0 where
   acyclic : ¬ (Cycle n (edgeAt s))
 
 sound : (n : ℕ) (s : List ℕ) → First (recountConditions n s) 0 → Sound n s
-sound n s (inl p) = absurd (omega (arith, p .1))
-sound n s (inr (_, inl p)) = absurd (omega (arith, p .1))
-sound n s (inr (_, inr (_, inl p))) = absurd (omega (arith, p .1))
-sound n s (inr (_, inr (_, inr (_, inl p)))) = absurd (omega (arith, p .1))
-sound n s (inr (a, inr (b, inr (c, inr (d, e))))) = record { shape = shape-not n s a b; rows = c; acyclic = d }
+sound n s f =
+    let c = first-past (first-past (first-past f .1) .1) in
+    record { shape = accepted-shape n s (rowConditions n s) f; rows = c .0; acyclic = first-past (c .1) .0 }
 
 module _ (n : ℕ) (s t : List ℕ) (h : Recounted n s t) (long : length s ≡ size n) where
   recounted-long : length t ≡ length s
@@ -147,10 +134,7 @@ module _ (n : ℕ) (s t : List ℕ) (h : Recounted n s t) (long : length s ≡ s
     shape = record { low = o .shape .low; high = o .shape .high; long = recounted-long ∙ long };
     rows = λ q. o .rows (q .0, q .1, rw (recounted-row (q .0) (q .1)) at (q .2));
     acyclic = λ q. o .acyclic (cycle-cong n (edgeAt t) (edgeAt s) (λ i j hi hj. sym (recounted-edge i j hi hj)) q);
-    counts = λ i j hi hj. exactly-cong
-        (path-cong n (edgeAt s) (edgeAt t) recounted-edge i j)
-        (path-cong n (edgeAt t) (edgeAt s) (λ a b ha hb. sym (recounted-edge a b ha hb)) i j)
-        (h .counts i j hi hj);
+    counts = λ i j hi hj. paths-cong n (edgeAt s) (edgeAt t) recounted-edge i j (countAt n t i j) (h .counts i j hi hj);
   }
 
 -- an accepted recount leaves a valid sheet with the same rows
@@ -202,14 +186,16 @@ recount-only n s r r′ t t′ h h′ =
       ],
     )
 
--- a valid sheet recounts to itself
-pub recount-same : (n : ℕ) (s : List ℕ) (r : Answer) (t : List ℕ) → Valid n s → Recount n s r t → (r .number ≡ 0) × (t ≡ s)
-recount-same n s r t v h =
+-- words with the rows of a valid sheet, whatever their counts, recount to it; so a valid sheet recounts to itself
+pub recount-same : (n : ℕ) (s t : List ℕ) → Valid n s → length t ≡ length s → ((i : ℕ) → i < n → rowAt t i ≡ rowAt s i)
+    → (r : Answer) (u : List ℕ) → Recount n t r u → (r .number ≡ 0) × (u ≡ s)
+recount-same n s t v long same r u h =
     let z : r .number ≡ 0
-    = first-only (recountConditions n s) (r .number) 0 (h .number)
-    (shape-passed n s (v .shape) (rowConditions n s) 0 (inr (v .rows, inr (v .acyclic, refl)))) in
-    let w = recount-valid n s r t h z in
-    (z, valid-only n t s (w .0) v (w .1))
+    = first-only (recountConditions n t) (r .number) 0 (h .number)
+    (shape-passed n t (record { low = v .shape .low; high = v .shape .high; long = long ∙ v .shape .long }) (rowConditions n t) 0
+    (inr (λ q. v .rows (same-stray n t s same q), inr (λ q. v .acyclic (same-cycle n t s same q), refl)))) in
+    let w = recount-valid n t r u h z in
+    (z, valid-only n u s (w .0) v (λ i hi. w .1 i hi ∙ same i hi))
 
 -- ---- validate
 
@@ -219,6 +205,10 @@ validate-iff n s r h = (
   λ e. elim (h .value) [ inl p ↦ p .0 | inr p ↦ absurd (omega (arith, p .1, e)) ],
   λ v. elim (h .value) [ inl p ↦ p .1 | inr p ↦ absurd (p .0 v) ],
 )
+
+-- so a valid sheet is accepted with the value 1
+pub valid-validates : (n : ℕ) (s : List ℕ) → Valid n s → Validate n s (answer 0 0 1)
+valid-validates n s v = record { number = shape-passed n s (v .shape) [] 0 refl; place = refl; value = inl (v, refl) }
 
 -- the contract of validate leaves nothing open
 pub validate-only : (n : ℕ) (s : List ℕ) (r r′ : Answer) → Validate n s r → Validate n s r′ → r ≡ r′

@@ -5,7 +5,7 @@ use mathlib.Core.Logic.{inl, inr}
 use mathlib.Core.Bool.{Bool, true, false, cond, false≢true}
 use mathlib.Core.List.{List}
 use Prim.Native.Nat.{ℕ, _+_, _-_, _^_, _≤_, _<_}
-use native.Mathlib.Decide.{decLt, ℕ-discrete}
+use native.Mathlib.Decide.{ℕ-discrete}
 use native.Mathlib.Omega.{arith}
 use borrow.Author.Tests.{eqb-true, eqb-false, eq-eqb, ne-eqb}
 use lib.Bits.{bitAnd}
@@ -14,7 +14,7 @@ use lib.ListN.{length, set, length-set}
 use lib.Pow.{pow-pos}
 use lib.Seq.{getD-set-same, getD-set-other}
 use Rattle.word.specs.Bit.{bit, hasBit, withoutBit, bitCount}
-use Rattle.word.proofs.BitLaws.{bit-cases, bit-clear-other, clear-le, clear-lt, bit-above-zero, bit-beyond, has-true, has-false, bit-zero}
+use Rattle.word.proofs.BitLaws.{bit-cases, bit-clear-other, clear-le, clear-below, clear-lt, bit-one-lt, bit-beyond, has-true, has-false, bit-zero}
 use Rattle.word.proofs.MaskLaws.{and-zero, and-some, bit-low}
 use Rattle.word.proofs.CountLaws.{bitCount-clear, bitCount-pos, bitCount-low}
 use Rattle.graph.specs.Graph.{Edge, Acyclic}
@@ -90,7 +90,7 @@ module _ (n : ℕ) (s : List ℕ) (high : n ≤ 64) (rows : RowsBelow n s) where
     peeled-more : Peeled n s (record { left = withoutBit (p .left) i; count = p .count + 1 }) (set l (p .count) i)
     peeled-more = record {
       long = length-set l (p .count) i ∙ h .long;
-      below = omega (arith, clear-le (p .left) i, h .below);
+      below = clear-below n (p .left) i (h .below);
       total = omega (arith, bitCount-clear (p .left) i (omega arith), b, h .total);
       order = record { vertex = entry-vertex; earlier = entry-earlier };
       taken = entry-taken;
@@ -156,7 +156,7 @@ module _ (n : ℕ) (s : List ℕ) (high : n ≤ 64) (rows : RowsBelow n s) where
     ordered = λ z. absurd (false≢true z);
     cycle = λ z.
         let b = bit-beyond 0 (p .left) (omega (arith, d)) in
-        let hb : b .0 < n = elim (decLt (b .0) n) [ yes o ↦ o | no o ↦ absurd (omega (arith, bit-above-zero (p .left) n (b .0) (rw e at (h .peeled .below)) (omega arith), b .2)) ] in
+        let hb = bit-one-lt n (p .left) (b .0) (rw e at (h .peeled .below)) (b .2) in
         stuck-cycle n (edgeAt s) (λ i. bit (p .left) i ≡ 1) (b .0) hb (b .2)
         (λ a ha la.
         let r = and-some (rowAt s a) (p .left) n (rows a ha) (h .stuck e a (omega arith) ha la) in

@@ -1,25 +1,20 @@
 -- THE TABLE. For every n, every length, all words and all other arguments: a call's number is k exactly if condition k of document
 -- 01's table holds and none before it, and 0 exactly if none holds. Assumes nothing.
-use mathlib.Core.Path.{_≡_, refl}
+use mathlib.Core.Path.{_≡_}
 use mathlib.Core.Logic.{_↔_}
-use mathlib.Core.List.{List, []}
+use mathlib.Core.List.{List}
 use Prim.Native.Nat.{ℕ}
-use lib.ListN.{length}
 use Rattle.sheet.specs.declared.answer.Answer.{Answer}
 use Rattle.sheet.specs.Table.{First}
-use Rattle.sheet.specs.Conditions.{vertexConditions, vertexTests, sizedTests}
 use Rattle.sheet.specs.Calls.{emptyConditions, emptyAnswer, pathCountConditions, pathCountAnswer, recountConditions, Recount, validateConditions, Validate}
-use Rattle.sheet.proofs.TableLaws.{reflects-or, reflects-le, first-true, first-iff}
-use Rattle.sheet.proofs.ShapeLaws.{sized-agree}
+use Rattle.sheet.proofs.TableLaws.{first-iff}
+use Rattle.sheet.proofs.ShapeLaws.{shape-first, vertices-first}
 
 pub empty-table : (n : ℕ) (s : List ℕ) (k : ℕ) → (emptyAnswer n s .number ≡ k) ↔ First (emptyConditions n s) k
-empty-table n s k = first-iff (emptyConditions n s) _ k (first-true (emptyConditions n s) (sizedTests n (length s) []) (sized-agree n s [] [] (λ h. tt)))
+empty-table n s k = first-iff (emptyConditions n s) _ k (shape-first n s)
 
 pub path-count-table : (n : ℕ) (s : List ℕ) (i j k : ℕ) → (pathCountAnswer n s i j .number ≡ k) ↔ First (pathCountConditions n s i j) k
-path-count-table n s i j k =
-    first-iff (pathCountConditions n s i j) _ k
-    (first-true (pathCountConditions n s i j) (sizedTests n (length s) (vertexTests n i j))
-    (sized-agree n s (vertexConditions n i j) (vertexTests n i j) (λ h. (reflects-or (reflects-le n i) (reflects-le n j), refl, λ d. tt))))
+path-count-table n s i j k = first-iff (pathCountConditions n s i j) _ k (vertices-first n s i j)
 
 pub recount-table : (n : ℕ) (s : List ℕ) (r : Answer) (t : List ℕ) → Recount n s r t → (k : ℕ) → (r .number ≡ k) ↔ First (recountConditions n s) k
 recount-table n s r t h k = first-iff (recountConditions n s) (r .number) k (h .number)

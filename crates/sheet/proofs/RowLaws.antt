@@ -4,27 +4,30 @@ use mathlib.Core.Path.{_≡_, refl, sym, ap, ap₂, _∙_}
 use mathlib.Core.Bool.{Bool, true, false, true≢false, not}
 use mathlib.Core.List.{List}
 use Prim.Native.Nat.{ℕ, zero, suc, _+_, _*_, _%_, _^_, _≤_, _<_}
-use native.Mathlib.Nat.{le-refl, zero-mul, one-mul}
-use native.Mathlib.Decide.{ℕ-discrete, decLt}
+use native.Mathlib.Nat.{le-refl}
+use native.Mathlib.Decide.{ℕ-discrete}
 use native.Mathlib.Numerals.{add-one}
 use native.Mathlib.Omega.{arith}
 use borrow.Author.Tests.{eqb-true, eq-eqb, not-true}
-use lib.Bits.{bitOr, bitXor, or-add-and, and-le-l, and-le-r, xor-add-and, xor-self}
+use lib.Bits.{bitOr, bitXor, and-le-l, and-le-r, xor-add-and, xor-self}
 use lib.Dec.{eqb}
 use lib.ListN.{length, getD, set, replicate, length-set, length-replicate, getD-replicate}
 use lib.Seq.{getD-set-same, getD-set-other}
 use Rattle.sums.specs.Sum.{sum}
-use Rattle.sums.specs.Modulo.{Congruent}
-use Rattle.sums.proofs.SumLaws.{delta-refl, delta-diff, sum-all-zero}
-use Rattle.sums.proofs.SumLaws.{sum-cong}
-use Rattle.word.specs.Bit.{bit, withoutBit, bitCount, Lowest}
-use Rattle.word.proofs.BitLaws.{bit-zero, bit-above-zero, clear-le}
-use Rattle.word.proofs.CountLaws.{sum-clear, bitCount-le}
+use Rattle.sums.proofs.SumLaws.{delta-refl, delta-diff, sum-cong}
+use Rattle.word.specs.Bit.{withoutBit, bitCount, Lowest}
+use Rattle.word.proofs.BitLaws.{clear-below}
+use Rattle.word.proofs.CountLaws.{bitCount-le, lowest-lt, Adding, adding-start, adding-more, adding-done}
+use Rattle.word.proofs.MaskLaws.{or-zero}
 use Rattle.sheet.specs.Table.{Reflects}
 use Rattle.sheet.specs.Layout.{size, rowAt, countAt, setBits}
 use Rattle.sheet.specs.Fill.{over}
 use Rattle.sheet.specs.Internal.{RowBase, RowAdded, RowsSummed, successorsSum, SuccessorsSummed, SameRow, RowHolds, RowFilled}
 use Rattle.sheet.proofs.FillLaws.{length-puts, over-in, over-out}
+
+-- the words from the base of row i on are the counts from i
+pub base-count : (n : ℕ) (s : List ℕ) (i base : ℕ) → RowBase n i base → (j : ℕ) → getD s (base + j) 0 ≡ countAt n s i j
+base-count n s i base at j = ap (λ x. getD s (x + j) 0) (at .is)
 
 -- ---- a row added to another, word by word
 
@@ -56,23 +59,15 @@ added-done s t w base j n a e = rw e at a
 pub record Summing (n : ℕ) (s : List ℕ) (mask rest : ℕ) (t : List ℕ) : Type 0 where
   pub long : length t ≡ 64
   pub below : rest < 2 ^ n
-  pub small : (j : ℕ) → j < n → getD t j 0 < 2 ^ 64
-  pub sums : (j : ℕ) → j < n → Congruent (2 ^ 64) (getD t j 0 + sum n (λ b. bit rest b * countAt n s b j)) (sum n (λ b. bit mask b * countAt n s b j))
+  pub adding : (j : ℕ) → j < n → Adding n mask rest (λ b. countAt n s b j) (getD t j 0)
 
 pub summing-start : (n : ℕ) (s : List ℕ) (mask : ℕ) → n ≤ 64 → mask < 2 ^ n → Summing n s mask mask (replicate 64 0)
 summing-start n s mask h q =
     record {
       long = length-replicate {A = ℕ} 64 0;
       below = q;
-      small = λ j l. omega (arith, none j l);
-      sums = λ j l. omega (arith, none j l);
+      adding = λ j l. rw (getD-replicate {A = ℕ} 64 j 0 0 (omega arith)) (adding-start n mask (λ b. countAt n s b j));
     }
-  where
-    none : (j : ℕ) → j < n → getD {A = ℕ} (replicate 64 0) j 0 ≡ 0
-    none j l = getD-replicate {A = ℕ} 64 j 0 0 (omega arith)
-
-pub lowest-lt : (n x b : ℕ) → Lowest x b → x < 2 ^ n → b < n
-lowest-lt n x b l h = elim (decLt b n) [ yes p ↦ p | no p ↦ absurd (omega (arith, bit-above-zero x n b h (omega arith))) ]
 
 pub summing-more : (n : ℕ) (s t u : List ℕ) (mask rest b base r : ℕ) → n ≤ 64 → Summing n s mask rest t → Lowest rest b → RowBase n b base
     → RowAdded n s base t u → r ≡ withoutBit rest b → Summing n s mask r u
@@ -80,26 +75,15 @@ summing-more n s t u mask rest b base r high was l at added er =
     rw er
     record {
       long = added .long ∙ was .long;
-      below = omega (arith, clear-le rest b);
-      small = λ j h. omega (arith, added .added j h (omega arith));
-      sums = more;
+      below = clear-below n rest b (was .below);
+      adding = λ j h.
+          adding-more n mask _ rest _ b _ (was .adding j h) l (lowest-lt n rest b l (was .below))
+          (added .added j h (omega arith) ∙ ap (λ x. (getD t j 0 + x) % 2 ^ 64) (base-count n s b base at j));
     }
-  where
-    more : (j : ℕ) → j < n → Congruent (2 ^ 64) (getD u j 0 + sum n (λ k. bit (withoutBit rest b) k * countAt n s k j)) (sum n (λ k. bit mask k * countAt n s k j))
-    more j h =
-        let c : getD s (base + j) 0 ≡ countAt n s b j = ap (λ x. getD s (x + j) 0) (at .is) in
-        let e : bit rest b * countAt n s b j ≡ countAt n s b j = ap (λ x. x * countAt n s b j) (l .set) ∙ one-mul (countAt n s b j) in
-        omega (arith, added .added j h (omega arith), was .sums j h, sum-clear n rest b (λ k. countAt n s k j) (lowest-lt n rest b l (was .below)))
 
 pub summing-done : (n : ℕ) (s t : List ℕ) (mask rest : ℕ) → Summing n s mask rest t → rest ≡ 0 → RowsSummed n s mask t
 summing-done n s t mask rest was e =
-    record {
-      long = was .long;
-      sums = λ j h. omega (arith, was .small j h, was .sums j h, none j);
-    }
-  where
-    none : (j : ℕ) → sum n (λ b. bit rest b * countAt n s b j) ≡ 0
-    none j = sum-all-zero n (λ b. bit rest b * countAt n s b j) (λ b l. rw (e, bit-zero b) (zero-mul (countAt n s b j)))
+    record { long = was .long; sums = λ j h. adding-done n mask (λ b. countAt n s b j) rest (getD t j 0) (was .adding j h) e }
 
 -- ---- the row that the recurrence gives
 
@@ -117,9 +101,6 @@ successors-summed n s t i r small hi was e =
     }
 
 -- ---- rows compared
-
-or-zero : (a b : ℕ) → bitOr a b ≡ 0 → (a ≡ 0) × (b ≡ 0)
-or-zero a b e = (omega (arith, or-add-and a b, and-le-r a b), omega (arith, or-add-and a b, and-le-l a b))
 
 xor-zero : (a b : ℕ) → bitXor a b ≡ 0 → a ≡ b
 xor-zero a b e = omega (arith, xor-add-and a b, and-le-l a b, and-le-r a b)
@@ -150,12 +131,9 @@ pub holds-same : (n : ℕ) (s t : List ℕ) (i base : ℕ) (r : Bool) → RowBas
     → Reflects r (RowHolds n s i)
 holds-same n s t i base r at summed same =
     record {
-      holds = λ e j h. sym (place j) ∙ same .holds e j h ∙ summed .sums j h;
-      shows = λ h. same .shows (λ j l. place j ∙ h j l ∙ sym (summed .sums j l));
+      holds = λ e j h. sym (base-count n s i base at j) ∙ same .holds e j h ∙ summed .sums j h;
+      shows = λ h. same .shows (λ j l. base-count n s i base at j ∙ h j l ∙ sym (summed .sums j l));
     }
-  where
-    place : (j : ℕ) → getD s (base + j) 0 ≡ countAt n s i j
-    place j = ap (λ x. getD s (x + j) 0) (at .is)
 
 -- a test of each i below n, one after the other: the first that fails, and the end
 module _ (P : ℕ → Type 0) (n i : ℕ) where
@@ -177,7 +155,7 @@ row-filled n s t u v base long at summed e =
     rw e
     record {
       long = length-puts s (λ j. base + j) f n;
-      filled = λ j h. ap (λ x. getD (over s base f n) (x + j) 0) (sym (at .is)) ∙ over-in s base f n j (omega arith) h ∙ summed .sums j h;
+      filled = λ j h. sym (base-count n (over s base f n) v base at j) ∙ over-in s base f n j (omega arith) h ∙ summed .sums j h;
       kept = λ k h. over-out s base f n k (rw (at .is) h);
     }
   where

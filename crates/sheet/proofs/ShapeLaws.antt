@@ -1,18 +1,19 @@
--- The laws of the checks that every call makes first: 1, n is not 1 to 64; 2, the sheet isn't n + n × n words. Assumes nothing.
+-- The laws of the checks that every call makes first: 1, n is not 1 to 64; 2, the sheet isn't n + n × n words; and of the check of
+-- two vertices: 3, one of them is n or more. Assumes nothing.
 use mathlib.Core.Path.{_≡_, refl, sym, _∙_}
-use mathlib.Core.Logic.{inl, inr}
-use mathlib.Core.Bool.{Bool, true, false, not, cond, _||_}
+use mathlib.Core.Logic.{_⊎_, inl, inr}
 use mathlib.Core.List.{List, []}
 use Prim.Native.Nat.{ℕ, _≤_, _<_}
+use native.Mathlib.Nat.{lt-of-not-le}
 use native.Mathlib.Decide.{decLt, ℕ-discrete}
 use native.Mathlib.Omega.{arith}
-use lib.Dec.{ltb, eqb}
 use lib.ListN.{length}
 use Rattle.sheet.specs.Table.{Conditions, First, Tests, firstTrue}
 use Rattle.sheet.specs.Layout.{Shape, size}
-use Rattle.sheet.specs.Conditions.{BadVertices, BadLength, sized, sizedTests}
-use Rattle.sheet.specs.Internal.{shapeNumber}
-use Rattle.sheet.proofs.TableLaws.{Agree, reflects-or, reflects-not, reflects-lt, reflects-eq, reflects-false, first-true, first-here, first-next, first-none}
+use Rattle.sheet.specs.Conditions.{BadVertices, BadLength, vertexConditions, vertexTests, sized, sizedTests}
+use Rattle.sheet.specs.Internal.{shapeNumber, verticesNumber}
+use Rattle.sheet.proofs.TableLaws.{Agree, reflects-or, reflects-not, reflects-lt, reflects-le, reflects-eq, reflects-false}
+use Rattle.sheet.proofs.TableLaws.{first-true, first-past, first-here, first-next, first-none, first-stops, first-passes}
 
 -- a sheet of which neither holds has the shape
 pub shape-not : (n : ℕ) (s : List ℕ) → ¬ (BadVertices n) → ¬ (BadLength n s) → Shape n s
@@ -57,7 +58,7 @@ module _ (n len : ℕ) where
 -- ---- what the number tells, with further conditions and tests after the two
 
 module _ (n : ℕ) (s : List ℕ) where
-  shape-first : First (sized n s []) (shapeNumber n (length s))
+  pub shape-first : First (sized n s []) (shapeNumber n (length s))
   shape-first = first-true (sized n s []) (sizedTests n (length s) []) (sized-agree n s [] [] (λ h. tt))
 
   -- a number that is not 0 is the call's
@@ -71,16 +72,11 @@ module _ (n : ℕ) (s : List ℕ) where
 
   -- a call that is not refused by 1 or 2 has the shape
   pub accepted-shape : (cs : Conditions) → First (sized n s cs) 0 → Shape n s
-  accepted-shape cs (inl p) = absurd (omega (arith, p .1))
-  accepted-shape cs (inr (p, inl q)) = absurd (omega (arith, q .1))
-  accepted-shape cs (inr (p, inr (q, r))) = shape-not n s p q
+  accepted-shape cs f = let p = first-past f in shape-not n s (p .0) (first-past (p .1) .0)
 
   -- 0 says that the sheet has the shape
   pub shape-of : (k : ℕ) → k ≡ shapeNumber n (length s) → k ≡ 0 → Shape n s
   shape-of k e z = accepted-shape [] (rw (← e, z) at shape-first)
-
-  pub shape-high : (k : ℕ) → k ≡ shapeNumber n (length s) → k ≡ 0 → n ≤ 64
-  shape-high k e z = shape-of k e z .high
 
   -- and that the call's is that of the further conditions
   pub shape-passed : Shape n s → (cs : Conditions) (k : ℕ) → First cs k → First (sized n s cs) k
@@ -88,17 +84,49 @@ module _ (n : ℕ) (s : List ℕ) where
 
 -- ---- the same of tests
 
-module _ (n : ℕ) (s : List ℕ) (ts : Tests) where
-  pub sized-stops : (k : ℕ) → k ≡ shapeNumber n (length s) → (k ≡ 0 → ⊥) → firstTrue (sizedTests n (length s) ts) ≡ k
-  unfolding firstTrue
-  sized-stops k e d = go (ltb n 1 || ltb 64 n) (not (eqb (length s) (size n))) e
-    where
-      go : (a b : Bool) → k ≡ cond a 1 (cond b 2 0) → cond a 1 (cond b 2 (firstTrue ts)) ≡ k
-      go true b q = sym q
-      go false true q = sym q
-      go false false q = absurd (d q)
+module _ (n len k : ℕ) (e : k ≡ shapeNumber n len) (ts : Tests) where
+  pub sized-stops : (k ≡ 0 → ⊥) → firstTrue (sizedTests n len ts) ≡ k
+  sized-stops d = first-stops (sizedTests n len []) ts (λ z. d (e ∙ z)) ∙ sym e
 
-  pub sized-passes : Shape n s → firstTrue (sizedTests n (length s) ts) ≡ firstTrue ts
-  sized-passes h =
-      first-next _ _ (reflects-false (reflects-or (reflects-lt n 1) (reflects-lt 64 n)) .1 (λ c. elim c [ inl l ↦ omega (arith, h .low) | inr l ↦ omega (arith, h .high) ]))
-      ∙ first-next _ _ (reflects-false (reflects-not (reflects-eq (length s) (size n))) .1 (λ d. d (h .long)))
+  pub sized-passes : k ≡ 0 → firstTrue (sizedTests n len ts) ≡ firstTrue ts
+  sized-passes z = first-passes (sizedTests n len []) ts (omega arith, (omega arith, tt)) (sym e ∙ z)
+
+-- ---- two vertices named
+
+pub vertices-first : (n : ℕ) (s : List ℕ) (i j : ℕ) → First (sized n s (vertexConditions n i j [])) (verticesNumber n (length s) i j)
+vertices-first n s i j =
+    first-true (sized n s (vertexConditions n i j [])) (sizedTests n (length s) (vertexTests n i j []))
+    (sized-agree n s (vertexConditions n i j []) (vertexTests n i j []) (λ h. (reflects-or (reflects-le n i) (reflects-le n j), refl, λ d. tt)))
+
+-- the ways out of `vertices_number`: k is what the check of the shape gave
+module _ (n len k : ℕ) (e : k ≡ shapeNumber n len) (i j : ℕ) where
+  pub vertices-stops : (k ≡ 0 → ⊥) → k ≡ verticesNumber n len i j
+  vertices-stops d = sym (sized-stops n len k e (vertexTests n i j []) d)
+
+  no-vertex : k ≡ 0 → ((n ≤ i) ⊎ (n ≤ j)) → 3 ≡ verticesNumber n len i j
+  no-vertex z h = sym (sized-passes n len k e (vertexTests n i j []) z ∙ first-here _ _ (reflects-or (reflects-le n i) (reflects-le n j) .shows h))
+
+  pub vertices-from : k ≡ 0 → n ≤ i → 3 ≡ verticesNumber n len i j
+  vertices-from z h = no-vertex z (inl h)
+
+  pub vertices-to : k ≡ 0 → n ≤ j → 3 ≡ verticesNumber n len i j
+  vertices-to z h = no-vertex z (inr h)
+
+  pub vertices-good : k ≡ 0 → i < n → j < n → 0 ≡ verticesNumber n len i j
+  vertices-good z hi hj =
+      sym (sized-passes n len k e (vertexTests n i j []) z
+      ∙ first-next _ _ (reflects-false (reflects-or (reflects-le n i) (reflects-le n j)) .1 (λ c. elim c [ inl l ↦ omega arith | inr l ↦ omega arith ]))
+      ∙ first-none)
+
+-- 0 says that the sheet has the shape and both vertices
+module _ (n : ℕ) (s : List ℕ) (i j k : ℕ) (e : k ≡ verticesNumber n (length s) i j) (z : k ≡ 0) where
+  accepted-vertices : First (sized n s (vertexConditions n i j [])) 0
+  accepted-vertices = rw (← e, z) at (vertices-first n s i j)
+
+  pub vertices-shape : Shape n s
+  vertices-shape = accepted-shape n s (vertexConditions n i j []) accepted-vertices
+
+  pub vertices-below : (n ≤ 64) × (i < n) × (j < n)
+  vertices-below =
+      let r = first-past (first-past (first-past accepted-vertices .1) .1) .0 in
+      (vertices-shape .high, lt-of-not-le (λ l. r (inl l)), lt-of-not-le (λ l. r (inr l)))

@@ -4,11 +4,12 @@ use mathlib.Core.Logic.{_↔_}
 use mathlib.Core.Bool.{Bool, true, false}
 use mathlib.Core.List.{List}
 use Prim.Native.Nat.{ℕ, _+_, _^_, _≤_, _<_}
+use native.Mathlib.Nat.{lt-of-not-le}
 use native.Mathlib.Decide.{decLt, ℕ-discrete}
 use native.Mathlib.Omega.{arith}
 use borrow.Author.Tests.{ltb-true, ltb-false}
 use lib.Dec.{ltb}
-use Rattle.word.proofs.BitLaws.{bit-above-zero, bit-beyond}
+use Rattle.word.proofs.BitLaws.{bit-one-lt, bit-beyond}
 use Rattle.sheet.specs.Table.{Reflects}
 use Rattle.sheet.specs.Layout.{rowAt}
 use Rattle.sheet.specs.Conditions.{StrayBit, StrayRow}
@@ -16,11 +17,14 @@ use Rattle.sheet.specs.Internal.{RowsBelow}
 use Rattle.sheet.proofs.TableLaws.{reflects-true, reflects-none, reflects-false}
 
 pub stray-iff : (n x : ℕ) → StrayBit n x ↔ (2 ^ n ≤ x)
-stray-iff n x = (λ b. elim (decLt x (2 ^ n)) [ yes l ↦ absurd (omega (arith, bit-above-zero x n (b .0) l (b .1), b .2)) | no l ↦ omega arith ], bit-beyond n x)
+stray-iff n x = (λ b. elim (decLt x (2 ^ n)) [ yes l ↦ absurd (omega (arith, bit-one-lt n x (b .0) l (b .2), b .1)) | no l ↦ omega arith ], bit-beyond n x)
+
+pub stray-not : (n x : ℕ) → ¬ (StrayBit n x) → x < 2 ^ n
+stray-not n x h = lt-of-not-le (λ l. h (stray-iff n x .1 l))
 
 pub rows-iff : (n : ℕ) (s : List ℕ) → (¬ (StrayRow n s)) ↔ RowsBelow n s
 rows-iff n s = (
-  λ h i hi. elim (decLt (rowAt s i) (2 ^ n)) [ yes l ↦ l | no l ↦ absurd (h (i, hi, stray-iff n (rowAt s i) .1 (omega arith))) ],
+  λ h i hi. stray-not n (rowAt s i) (λ q. h (i, hi, q)),
   λ h r. omega (arith, h (r .0) (r .1), stray-iff n (rowAt s (r .0)) .0 (r .2)),
 )
 

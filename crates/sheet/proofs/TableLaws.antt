@@ -3,8 +3,9 @@
 use mathlib.Core.Path.{_≡_, refl, sym, _∙_}
 use mathlib.Core.Logic.{_⊎_, inl, inr, _↔_}
 use mathlib.Core.Bool.{Bool, true, false, not, cond, _||_, false≢true}
-use mathlib.Core.List.{[], _∷_}
-use Prim.Native.Nat.{ℕ, _≤_, _<_}
+use mathlib.Core.List.{[], _∷_, _++_}
+use Prim.Native.Nat.{ℕ, suc, _≤_, _<_}
+use native.Mathlib.Omega.{arith}
 use borrow.Author.Tests.{ltb-true, leb-true, eqb-true, lt-ltb, le-leb, eq-eqb}
 use lib.Dec.{ltb, leb, eqb}
 use Rattle.sheet.specs.Table.{_gives_, Conditions, First, Tests, firstTrue, Reflects}
@@ -86,6 +87,21 @@ first-only (c ∷ cs) j k (inr p) (inr q) = first-only cs j k (p .1) (q .1)
 pub first-iff : (cs : Conditions) (m k : ℕ) → First cs m → (m ≡ k) ↔ First cs k
 first-iff cs m k f = (λ e. rw e at f, first-only cs m k f)
 
+-- where a number is 0, its condition does not hold
+pub first-past : {P Q : Type 0} {k : ℕ} → ((P × (0 ≡ suc k)) ⊎ ((¬ P) × Q)) → (¬ P) × Q
+first-past (inl p) = absurd (omega (arith, p .1))
+first-past (inr p) = p
+
+-- where a condition does not hold, those after it give the number
+pub first-rest : {P Q : Type 0} {j k : ℕ} → ¬ P → ((P × (k ≡ j)) ⊎ ((¬ P) × Q)) → Q
+first-rest d (inl p) = absurd (d (p .0))
+first-rest d (inr p) = p .1
+
+-- the last condition gives its number exactly if it holds
+pub first-last : {P : Type 0} {m k : ℕ} → First (P gives suc m ∷ []) k → (k ≡ suc m) ↔ P
+first-last (inl p) = (λ e. p .0, λ q. p .1)
+first-last (inr p) = (λ e. absurd (omega (arith, p .1)), λ q. absurd (p .0 q))
+
 -- conditions that hold together give the same number
 pub first-cong : {P Q : Type 0} (m : ℕ) (cs ds : Conditions) (k : ℕ) → P ↔ Q → (First cs k → First ds k) → First (P gives m ∷ cs) k → First (Q gives m ∷ ds) k
 first-cong m cs ds k e h (inl p) = inl (e .0 (p .0), p .1)
@@ -103,3 +119,29 @@ first-next t ts e = rw e
 pub first-none : firstTrue [] ≡ 0
 unfolding firstTrue
 first-none = refl
+
+-- tests before others: one that is true stops, and where none is true the others are looked at
+pub first-stops : (ts us : Tests) → (firstTrue ts ≡ 0 → ⊥) → firstTrue (ts ++ us) ≡ firstTrue ts
+unfolding firstTrue
+first-stops [] us d = absurd (d refl)
+first-stops (t ∷ ts) us d = go (t .0) d (first-stops ts us)
+  where
+    go : (b : Bool) → (cond b (t .1) (firstTrue ts) ≡ 0 → ⊥) → ((firstTrue ts ≡ 0 → ⊥) → firstTrue (ts ++ us) ≡ firstTrue ts)
+        → cond b (t .1) (firstTrue (ts ++ us)) ≡ cond b (t .1) (firstTrue ts)
+    go true d rest = refl
+    go false d rest = rest d
+
+-- no test gives 0
+abbrev pub Refusing : Tests → Type 0
+Refusing [] = Unit {0}
+Refusing (t ∷ ts) = (0 < t .1) × Refusing ts
+
+pub first-passes : (ts us : Tests) → Refusing ts → firstTrue ts ≡ 0 → firstTrue (ts ++ us) ≡ firstTrue us
+unfolding firstTrue
+first-passes [] us h e = refl
+first-passes (t ∷ ts) us h e = go (t .0) e (first-passes ts us (h .1))
+  where
+    go : (b : Bool) → cond b (t .1) (firstTrue ts) ≡ 0 → (firstTrue ts ≡ 0 → firstTrue (ts ++ us) ≡ firstTrue us)
+        → cond b (t .1) (firstTrue (ts ++ us)) ≡ firstTrue us
+    go true e rest = absurd (omega (arith, h .0))
+    go false e rest = rest e

@@ -29,10 +29,10 @@ emptyAfter n s = decided (emptyNumber n s) (emptySheet n) s
 -- ---- path_count: the count from i to j, as it stands in the sheet
 
 abbrev pub pathCountConditions : ℕ → List ℕ → ℕ → ℕ → Conditions
-pathCountConditions n s i j = sized n s (vertexConditions n i j)
+pathCountConditions n s i j = sized n s (vertexConditions n i j [])
 
 abbrev pub pathCountNumber : ℕ → List ℕ → ℕ → ℕ → ℕ
-pathCountNumber n s i j = firstTrue (sizedTests n (length s) (vertexTests n i j))
+pathCountNumber n s i j = firstTrue (sizedTests n (length s) (vertexTests n i j []))
 
 abbrev pub pathCountAnswer : ℕ → List ℕ → ℕ → ℕ → Answer
 pathCountAnswer n s i j = answered (pathCountNumber n s i j) (countAt n s i j)

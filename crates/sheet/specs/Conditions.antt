@@ -32,12 +32,12 @@ StrayBit n x = (j : ℕ) × (n ≤ j) × (bit x j ≡ 1)
 abbrev pub StrayRow : ℕ → List ℕ → Type 0
 StrayRow n s = (i : ℕ) × (i < n) × StrayBit n (rowAt s i)
 
--- of two vertices named
-abbrev pub vertexConditions : ℕ → ℕ → ℕ → Conditions
-vertexConditions n i j = (NoVertex n i ⊎ NoVertex n j) gives 3 ∷ []
+-- of two vertices named, and then the conditions l
+abbrev pub vertexConditions : ℕ → ℕ → ℕ → Conditions → Conditions
+vertexConditions n i j l = (NoVertex n i ⊎ NoVertex n j) gives 3 ∷ l
 
-abbrev pub vertexTests : ℕ → ℕ → ℕ → Tests
-vertexTests n i j = (leb n i || leb n j) gives 3 ∷ []
+abbrev pub vertexTests : ℕ → ℕ → ℕ → Tests → Tests
+vertexTests n i j l = (leb n i || leb n j) gives 3 ∷ l
 
 -- of the rows in a recount
 abbrev pub rowConditions : ℕ → List ℕ → Conditions

@@ -15,11 +15,15 @@ use Rattle.graph.specs.Order.{Order}
 use Rattle.sheet.specs.declared.order.Peeling.{Peeling}
 use Rattle.sheet.specs.Table.{firstTrue}
 use Rattle.sheet.specs.Layout.{mostVertices, size, countsFrom, countPlace, rowAt, countAt, edgeAt, redone}
-use Rattle.sheet.specs.Conditions.{sizedTests}
+use Rattle.sheet.specs.Conditions.{vertexTests, sizedTests}
 
 -- the number that the checks of the shape give: 1, 2 or 0, of n vertices and len words
 abbrev pub shapeNumber : ℕ → ℕ → ℕ
 shapeNumber n len = firstTrue (sizedTests n len [])
+
+-- the same, with 3 for a vertex i or j that there is not
+abbrev pub verticesNumber : ℕ → ℕ → ℕ → ℕ → ℕ
+verticesNumber n len i j = firstTrue (sizedTests n len (vertexTests n i j []))
 
 -- ---- places
 

@@ -12,8 +12,8 @@ pub struct Answer {
 }
 
 impl Answer {
-    // Refused by a number that names no record.
-    pub(crate) fn refused(number: u64) -> Answer
+    // Internal: refused by a number that names no record.
+    pub fn refused(number: u64) -> Answer
         ensures { λ r. ⌜ r ≡ answer number 0 0 ⌝ }
     {
         Answer {
@@ -23,8 +23,8 @@ impl Answer {
         }
     }
 
-    // Accepted, with a value.
-    pub(crate) fn accepted(value: u64) -> Answer
+    // Internal: accepted, with a value.
+    pub fn accepted(value: u64) -> Answer
         ensures { λ r. ⌜ r ≡ answer 0 0 value ⌝ }
     {
         Answer {

@@ -3,13 +3,13 @@ ghost use mathlib.Core.Path.{_≡_};
 ghost use Rattle.sheet.specs.Layout.{Shape};
 ghost use Rattle.sheet.specs.Table.{Reflects};
 ghost use Rattle.sheet.specs.Conditions.{StrayRow};
-ghost use Rattle.sheet.specs.Internal.{shapeNumber};
+ghost use Rattle.sheet.specs.Internal.{shapeNumber, verticesNumber};
 use crate::answer::Refusal;
 use crate::layout;
 use crate::layout::Sheet;
 
-// 1 if n is not 1 to 64, else 2 if a sheet of n vertices has not so many words, else 0.
-pub(crate) fn shape_number(n: usize, words: usize) -> u64
+// Internal: 1 if n is not 1 to 64, else 2 if a sheet of n vertices has not so many words, else 0.
+pub fn shape_number(n: usize, words: usize) -> u64
     ensures { λ r. ⌜ r ≡ shapeNumber n words ⌝ }
 {
     if n < 1 {
@@ -20,6 +20,23 @@ pub(crate) fn shape_number(n: usize, words: usize) -> u64
     }
     if words != layout::word_count(n) {
         return Refusal::LENGTH;
+    }
+    0
+}
+
+// Internal: as shape_number, and then 3 if one of the vertices i and j is n or more.
+pub fn vertices_number(n: usize, words: usize, i: usize, j: usize) -> u64
+    ensures { λ r. ⌜ r ≡ verticesNumber n words i j ⌝ }
+{
+    let number = shape_number(n, words);
+    if number != 0 {
+        return number;
+    }
+    if n <= i {
+        return Refusal::VERTEX;
+    }
+    if n <= j {
+        return Refusal::VERTEX;
     }
     0
 }

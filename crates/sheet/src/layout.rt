@@ -36,8 +36,8 @@ pub(crate) fn word_count(n: usize) -> usize
     n + n * n
 }
 
-// Where the counts from vertex i begin.
-pub(crate) fn row_base(n: usize, i: usize) -> usize
+// Internal: where the counts from vertex i begin.
+pub fn row_base(n: usize, i: usize) -> usize
     requires { ⌜ (n ≤ 64) × (i < n) ⌝ }
     ensures { λ r. ⌜ RowBase n i r ⌝ }
 {

@@ -8,11 +8,11 @@ ghost use Rattle.sheet.specs.Calls.{emptyAnswer, emptyAfter, pathCountAn
 ghost use Rattle.sheet.specs.Internal.{counted, RowsBelow, Ordered};
 
 mod answer;
-mod checks;
+pub mod checks;
 mod fill;
-mod layout;
+pub mod layout;
 mod order;
-mod rows;
+pub mod rows;
 
 pub use answer::Answer;
 pub use answer::Refusal;
@@ -35,15 +35,9 @@ pub fn empty(n: usize, sheet: &mut [u64]) -> Answer
 pub fn path_count(n: usize, sheet: &[u64], from: usize, to: usize) -> Answer
     ensures answer { λ r. ⌜ r ≡ pathCountAnswer n (now (sheet .entry)) from to ⌝ }
 {
-    let number = checks::shape_number(n, sheet.len());
+    let number = checks::vertices_number(n, sheet.len(), from, to);
     if number != 0 {
         return Answer::refused(number);
-    }
-    if n <= from {
-        return Answer::refused(Refusal::VERTEX);
-    }
-    if n <= to {
-        return Answer::refused(Refusal::VERTEX);
     }
     let k = layout::count_place(n, from, to);
     Answer::accepted(sheet[k])
@@ -78,7 +72,7 @@ pub fn recount(n: usize, sheet: &mut [u64]) -> Answer
         return Answer::refused(Refusal::CYCLE);
     }
     fill_counts(n, sheet, &order);
-    Answer::accepted(rows::count_edges(n, sheet))
+    Answer::accepted(rows::count_set_bits(n, sheet))
 }
 
 // Whether a sheet of the right shape is valid. Where there is no cycle, the counts are the numbers of paths exactly

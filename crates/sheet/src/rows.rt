@@ -21,8 +21,8 @@ fn add_row(n: usize, sheet: &[u64], base: usize, t: &mut [u64; Sheet::VERTICES])
     }
 }
 
-// For each j below n, the sum of the counts to j from the vertices of the mask, modulo 2^64.
-fn sum_rows(n: usize, sheet: &[u64], mask: u64) -> [u64; Sheet::VERTICES]
+// Internal: for each j below n, the sum of the counts to j from the vertices of the mask, modulo 2^64.
+pub fn sum_rows(n: usize, sheet: &[u64], mask: u64) -> [u64; Sheet::VERTICES]
     requires { ⌜ (Shape n (now sheet)) × (mask < 2 ^ n) ⌝ }
     ensures { λ r. ⌜ RowsSummed n (now (sheet .entry)) mask r ⌝ }
 {
@@ -106,8 +106,8 @@ pub(crate) fn fill_row(n: usize, sheet: &mut [u64], v: usize)
     put_row(n, sheet, layout::row_base(n, v), &t);
 }
 
-// The set bits of all rows.
-pub(crate) fn count_edges(n: usize, sheet: &[u64]) -> u64
+// Internal: the set bits of all rows.
+pub fn count_set_bits(n: usize, sheet: &[u64]) -> u64
     requires { ⌜ Shape n (now sheet) ⌝ }
     ensures { λ r. ⌜ r ≡ setBits n (now (sheet .entry)) ⌝ }
 {

@@ -113,6 +113,10 @@ sum-mul-add n f g h = sum-cong n _ _ (λ i p. mul-add (f i) (g i) (h i)) ∙ sum
 pub sum-add-mul : (n : ℕ) (f g h : ℕ → ℕ) → sum n (λ i. (f i + g i) * h i) ≡ sum n (λ i. f i * h i) + sum n (λ i. g i * h i)
 sum-add-mul n f g h = sum-cong n _ _ (λ i p. add-mul (f i) (g i) (h i)) ∙ sum-add n (λ i. f i * h i) (λ i. g i * h i)
 
+-- a factor that is the same in every term, at the right end
+pub sum-mul-right : (n c : ℕ) (f g : ℕ → ℕ) → sum n (λ i. f i * (g i * c)) ≡ sum n (λ i. f i * g i) * c
+sum-mul-right n c f g = sum-cong n _ _ (λ i p. sym (mul-assoc (f i) (g i) c)) ∙ sym (sum-mul n c (λ i. f i * g i))
+
 -- a row by a table by a column, bracketed either way
 pub sum-assoc : (n : ℕ) (f : ℕ → ℕ) (g : ℕ → ℕ → ℕ) (h : ℕ → ℕ)
     → sum n (λ b. f b * sum n (λ a. g b a * h a)) ≡ sum n (λ a. sum n (λ b. f b * g b a) * h a)
@@ -120,3 +124,10 @@ sum-assoc n f g h =
     sum-cong n _ _ (λ b p. mul-sum n (f b) (λ a. g b a * h a) ∙ sum-cong n _ _ (λ a q. sym (mul-assoc (f b) (g b a) (h a))))
     ∙ sum-swap n n (λ b a. f b * g b a * h a)
     ∙ sum-cong n _ _ (λ a p. sym (sum-mul n (h a) (λ b. f b * g b a)))
+
+-- a table weighted by rows and by columns, summed in either order
+pub sum-exchange : (n : ℕ) (f g : ℕ → ℕ) (h : ℕ → ℕ → ℕ) → sum n (λ a. f a * sum n (λ b. g b * h b a)) ≡ sum n (λ b. g b * sum n (λ a. f a * h b a))
+sum-exchange n f g h =
+    sum-cong n _ _ (λ a p. mul-comm (f a) (sum n (λ b. g b * h b a)))
+    ∙ sym (sum-assoc n g h f)
+    ∙ sum-cong n _ _ (λ b p. ap (λ x. g b * x) (sum-cong n _ _ (λ a q. mul-comm (h b a) (f a))))

@@ -1,16 +1,18 @@
--- The laws of a number's bits: one bit, a bit set or cleared, and the number that the bits determine. Assumes nothing.
+-- The laws of a number's bits: one bit, a bit set or cleared, the number that the bits determine, and the word of given bits.
+-- Assumes nothing.
 use mathlib.Core.Path.{_≡_, refl, sym, ap, subst, _∙_}
 use mathlib.Core.Logic.{_⊎_, inl, inr, ⊎-elim, _↔_}
 use mathlib.Core.Bool.{Bool, true, false}
 use Prim.Native.Nat.{ℕ, zero, suc, _+_, _-_, _*_, _/_, _%_, _^_, _≤_, _<_}
-use native.Mathlib.Nat.{mod-lt, div-eq-of-lt, zero-lt-suc, lt-of-lt-of-le, zero-div, pow-suc, add-mul, sub-le}
+use native.Mathlib.Nat.{mod-lt, div-eq-of-lt, zero-lt-suc, lt-of-le-of-lt, lt-of-lt-of-le, lt-of-not-le, zero-div, pow-suc, add-comm, add-mul, mul-le-mul-right, sub-le}
 use native.Mathlib.Numerals.{add-one, one-add}
-use native.Mathlib.Decide.{decLt}
+use native.Mathlib.Decide.{decLt, ℕ-discrete}
 use native.Mathlib.Omega.{arith}
 use borrow.Author.Tests.{eqb-true, eqb-false}
 use lib.Arith.{lt-one}
 use lib.Pow.{pow-pos, pow-mono, shr-shr, shr-lt, split, high, low, field, mod-mod-pow}
-use Rattle.word.specs.Bit.{bit, hasBit, withBit, withoutBit}
+use Rattle.sums.specs.Sum.{sum}
+use Rattle.word.specs.Bit.{bit, hasBit, withBit, withoutBit, ofBits}
 
 pub bit-lt : (x j : ℕ) → bit x j < 2
 bit-lt x j = mod-lt (x / 2 ^ j) (zero-lt-suc 1)
@@ -88,10 +90,6 @@ bit-set-other x j k d =
     ∙ bit-other (x / 2 ^ j + (1 - bit x j)) (x / 2 ^ j) j (x % 2 ^ j) k d (omega arith) (rest-lt x j)
     ∙ ap (λ y. bit y k) (split x j)
 
-pub set-twice : (x j : ℕ) → withBit (withBit x j) j ≡ withBit x j
-unfolding withBit
-set-twice x j = omega (arith, ap (λ y. (1 - y) * 2 ^ j) (bit-set-same x j))
-
 -- ---- a bit cleared
 
 -- what stands above j, the digit j, and what stands below
@@ -122,6 +120,9 @@ pub clear-le : (x j : ℕ) → withoutBit x j ≤ x
 unfolding withoutBit
 clear-le x j = sub-le x (bit x j * 2 ^ j)
 
+pub clear-below : (n x j : ℕ) → x < 2 ^ n → withoutBit x j < 2 ^ n
+clear-below n x j h = lt-of-le-of-lt (clear-le x j) h
+
 pub clear-lt : (x j : ℕ) → bit x j ≡ 1 → withoutBit x j < x
 clear-lt x j e = omega (arith, clear-split x j, digit-split x j, ap (λ y. y * 2 ^ j) e, pow-pos j)
 
@@ -140,6 +141,10 @@ bits-determine (suc n) a b ha hb h =
 -- a number of n digits has no bit at n or above
 pub bit-above-zero : (x n j : ℕ) → x < 2 ^ n → n ≤ j → bit x j ≡ 0
 bit-above-zero x n j h l = ap (λ y. y % 2) (div-eq-of-lt (lt-of-lt-of-le h (pow-mono l)))
+
+-- so each bit that it has stands below n
+pub bit-one-lt : (n x j : ℕ) → x < 2 ^ n → bit x j ≡ 1 → j < n
+bit-one-lt n x j h e = lt-of-not-le (λ l. omega (arith, bit-above-zero x n j h l))
 
 -- a number that is not 0 has a bit
 some-bit : (k x : ℕ) → x < 2 ^ k → 0 < x → (j : ℕ) × (bit x j ≡ 1)
@@ -178,3 +183,36 @@ below-iff n x = (λ h j l. bit-above-zero x n j h l, back)
 
 pub set-below : (n x j : ℕ) → j < n → x < 2 ^ n → withBit x j < 2 ^ n
 set-below n x j jn h = below-iff n (withBit x j) .1 (λ k l. bit-set-other x j k (omega arith) ∙ bit-above-zero x n k h l)
+
+-- ---- the word of given bits
+
+module _ (f : ℕ → ℕ) (h : (j : ℕ) → f j ≤ 1) where
+  -- n digits, each 0 or 1
+  digits-lt : (n : ℕ) → sum n (λ j. f j * 2 ^ j) < 2 ^ n
+  unfolding sum
+  digits-lt zero = omega arith
+  digits-lt (suc n) = omega (arith, digits-lt n, pow-suc 2 n, mul-le-mul-right (2 ^ n) (h n))
+
+  -- the last digit stands on top of the digits below it
+  bit-digits : (n j : ℕ) → j < n → bit (sum n (λ k. f k * 2 ^ k)) j ≡ f j
+  unfolding sum
+  bit-digits zero j l = absurd (omega arith)
+  bit-digits (suc n) j l =
+      let low : ℕ = sum n (λ k. f k * 2 ^ k) in
+      ap (λ y. bit y j) (add-comm low (f n * 2 ^ n))
+      ∙ elim (ℕ-discrete j n) [
+        | yes e ↦ rw e (bit-at (f n) n low (digits-lt n) ∙ omega (arith, h n))
+        | no d ↦ bit-below (f n) n low j (omega (arith, d)) (digits-lt n) ∙ bit-digits n j (omega (arith, d))
+      ]
+
+  pub ofBits-lt : ofBits f < 2 ^ 64
+  unfolding ofBits
+  ofBits-lt = digits-lt 64
+
+  pub bit-ofBits : (j : ℕ) → j < 64 → bit (ofBits f) j ≡ f j
+  unfolding ofBits
+  bit-ofBits j l = bit-digits 64 j l
+
+-- it is the only word with these bits
+pub ofBits-only : (x : ℕ) (f : ℕ → ℕ) → ((j : ℕ) → f j ≤ 1) → x < 2 ^ 64 → ((j : ℕ) → j < 64 → bit x j ≡ f j) → x ≡ ofBits f
+ofBits-only x f h l e = bits-determine 64 x (ofBits f) l (ofBits-lt f h) (λ j q. e j q ∙ sym (bit-ofBits f h j q))

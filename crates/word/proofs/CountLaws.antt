@@ -1,4 +1,4 @@
--- The laws of sums over the bits of a word, of how many are set, and of the lowest that is set. Assumes nothing.
+-- The laws of sums over the bits of a word, of how many are set, of the lowest that is set, and of sums by the lowest. Assumes nothing.
 use mathlib.Core.Path.{_≡_, sym, ap, ap₂, subst, _∙_}
 use mathlib.Core.Logic.{inl, inr, ⊎-elim}
 use Prim.Native.Nat.{ℕ, zero, suc, _+_, _-_, _*_, _/_, _%_, _^_, _≤_, _<_}
@@ -10,11 +10,12 @@ use lib.Arith.{lt-one}
 use lib.Pow.{pow-pos, pow-mono, shr-lt, split, ones-lt}
 use lib.Count.{ones, ones-cat, ones-ones, trailingZeros}
 use Rattle.sums.specs.Sum.{sum, delta}
-use Rattle.sums.proofs.SumLaws.{delta-refl, delta-diff, sum-cong, sum-add, sum-pick, term-le}
-use Rattle.word.specs.Bit.{bit, withBit, withoutBit, bitCount, Lowest}
-use Rattle.word.proofs.BitLaws.{bit-lt, bit-above-zero, bit-cases, bit-half, half-lt, bit-mod, bit-set-same, bit-set-other, bit-clear-same, bit-clear-other}
+use Rattle.sums.specs.Modulo.{Congruent}
+use Rattle.sums.proofs.SumLaws.{delta-refl, delta-diff, sum-cong, sum-add, sum-all-zero, sum-pick, term-le}
+use Rattle.word.specs.Bit.{bit, withoutBit, bitCount, Lowest}
+use Rattle.word.proofs.BitLaws.{bit-lt, bit-cases, bit-zero, bit-half, bit-mod, bit-clear-same, bit-clear-other, clear-lt, half-lt, bit-above-zero, bit-one-lt}
 
--- ---- a sum over the set bits, where one bit changes
+-- ---- a sum over the set bits, where one bit is cleared, and where none is left
 
 -- two functions that differ at j alone
 sum-differ : (n j c : ℕ) (f g : ℕ → ℕ) → j < n → g j ≡ f j + c → ((b : ℕ) → (b ≡ j → ⊥) → g b ≡ f b) → sum n g ≡ sum n f + c
@@ -34,11 +35,8 @@ sum-clear n x j f h =
     (omega (arith, ap (λ y. y * f j) (bit-clear-same x j)))
     (λ b d. ap (λ y. y * f b) (sym (bit-clear-other x j b d)))
 
-pub sum-set : (n x j : ℕ) (f : ℕ → ℕ) → j < n → sum n (λ b. bit (withBit x j) b * f b) ≡ sum n (λ b. bit x b * f b) + (1 - bit x j) * f j
-sum-set n x j f h =
-    sum-differ n j ((1 - bit x j) * f j) (λ b. bit x b * f b) (λ b. bit (withBit x j) b * f b) h
-    (ap (λ y. y * f j) (bit-set-same x j) ∙ ⊎-elim (λ e. rw e (omega arith)) (λ e. rw e (omega arith)) (bit-cases x j))
-    (λ b d. ap (λ y. y * f b) (bit-set-other x j b d))
+pub sum-no-bits : (n : ℕ) (f : ℕ → ℕ) → sum n (λ b. bit 0 b * f b) ≡ 0
+sum-no-bits n f = sum-all-zero n _ (λ b l. rw (bit-zero b) (zero-mul (f b)))
 
 -- ---- how many bits are set
 
@@ -118,3 +116,30 @@ trailing-lowest (suc k) x p h =
 
 pub lowest-trailing : (x : ℕ) → 0 < x → x < 2 ^ 64 → Lowest x (trailingZeros 64 x)
 lowest-trailing x p h = let t = trailing-lowest 64 x p h in record { within = t .0; set = t .1; least = t .2 }
+
+-- the lowest bit of a number of n digits is one of them
+pub lowest-lt : (n x b : ℕ) → Lowest x b → x < 2 ^ n → b < n
+lowest-lt n x b l h = bit-one-lt n x b h (l .set)
+
+-- with its lowest bit cleared a number falls
+pub lowest-cleared-lt : (x b r : ℕ) → Lowest x b → r ≡ withoutBit x b → r < x
+lowest-cleared-lt x b r l e = rw e (clear-lt x b (l .set))
+
+-- ---- a sum over the bits of a mask, by the lowest bit of what is left of it
+
+-- x and the terms at the bits of rest add up to those at the bits of the mask, modulo 2 ^ 64
+pub record Adding (n mask rest : ℕ) (f : ℕ → ℕ) (x : ℕ) : Type 0 where
+  pub small : x < 2 ^ 64
+  pub sums : Congruent (2 ^ 64) (x + sum n (λ b. bit rest b * f b)) (sum n (λ b. bit mask b * f b))
+
+module _ (n mask : ℕ) (f : ℕ → ℕ) where
+  pub adding-start : Adding n mask mask f 0
+  adding-start = record { small = omega arith; sums = omega arith }
+
+  pub adding-more : (rest x b y : ℕ) → Adding n mask rest f x → Lowest rest b → b < n → y ≡ (x + f b) % 2 ^ 64 → Adding n mask (withoutBit rest b) f y
+  adding-more rest x b y was l h e =
+      let t : bit rest b * f b ≡ f b = ap (λ z. z * f b) (l .set) ∙ one-mul (f b) in
+      record { small = omega arith; sums = omega (arith, was .sums, sum-clear n rest b f h) }
+
+  pub adding-done : (rest x : ℕ) → Adding n mask rest f x → rest ≡ 0 → x ≡ sum n (λ b. bit mask b * f b) % 2 ^ 64
+  adding-done rest x was e = omega (arith, was .small, was .sums, ap (λ r. sum n (λ b. bit r b * f b)) e ∙ sum-no-bits n f)

@@ -9,11 +9,11 @@ use native.Mathlib.Omega.{arith}
 use lib.Pow.{pow-pos, pow-mono, pow-add, pow-lt}
 use lib.Dec.{eqb, ltb}
 use borrow.Author.Tests.{lt-ltb, le-ltb, eq-eqb, ne-eqb}
-use lib.Bits.{bitAnd, bitOr, and-le-l, and-shr, and-step, and-high, or-add-and}
+use lib.Bits.{bitAnd, bitOr, and-le-l, and-le-r, and-shr, and-step, and-high, or-add-and, or-shr}
 use Rattle.sums.specs.Sum.{delta}
 use Rattle.sums.proofs.SumLaws.{delta-refl, delta-diff}
 use Rattle.word.specs.Bit.{bit, withBit, withoutBit}
-use Rattle.word.proofs.BitLaws.{bit-cases, bit-zero, bit-half, bit-set-same, bit-set-other, bit-clear-same, bit-clear-other, clear-le, bits-determine, bit-above-zero, bit-beyond, shr-zero-lt}
+use Rattle.word.proofs.BitLaws.{bit-cases, bit-zero, bit-half, bit-set-same, bit-set-other, bit-clear-same, bit-clear-other, clear-below, bits-determine, bit-one-lt, bit-beyond, shr-zero-lt}
 
 -- ---- a power of 2, and the word whose bits below n are set
 
@@ -27,7 +27,7 @@ bit-pow v j =
     ]
 
 -- a bit of y is set where that of the complement is not
-bit-not : (n y j : ℕ) → y < 2 ^ n → j < n → bit ((2 ^ n - 1) - y) j + bit y j ≡ 1
+pub bit-not : (n y j : ℕ) → y < 2 ^ n → j < n → bit ((2 ^ n - 1) - y) j + bit y j ≡ 1
 bit-not zero y j h l = absurd (omega arith)
 bit-not (suc n) y zero h l = omega (arith, pow-suc 2 n)
 bit-not (suc n) y (suc j) h l =
@@ -54,6 +54,17 @@ bit-and x y j =
     (λ e. omega (arith, and-step (x / 2 ^ j) (y / 2 ^ j), ap (λ b. b * bit y j) e))
     (bit-cases x j)
 
+-- and what is in one of them
+pub bit-or : (x y j : ℕ) → bit (bitOr x y) j ≡ bit x j + (1 - bit x j) * bit y j
+bit-or x y j =
+    let a : ℕ = x / 2 ^ j in
+    let b : ℕ = y / 2 ^ j in
+    ap (λ z. z % 2) (or-shr x y j)
+    ∙ ⊎-elim
+    (λ e. omega (arith, or-add-and a b, and-step a b, ap (λ c. c * bit y j) e, ap (λ c. (1 - c) * bit y j) e))
+    (λ e. omega (arith, or-add-and a b, and-step a b, ap (λ c. c * bit y j) e, ap (λ c. (1 - c) * bit y j) e))
+    (bit-cases x j)
+
 pub and-zero : (x y : ℕ) → bitAnd x y ≡ 0 → (j : ℕ) → bit x j ≡ 1 → bit y j ≡ 0
 and-zero x y e j h = sym (rw h (one-mul (bit y j))) ∙ sym (bit-and x y j) ∙ ap (λ z. bit z j) e ∙ bit-zero j
 
@@ -64,11 +75,14 @@ and-some x y n h d =
     let e : bit x (r .0) * bit y (r .0) ≡ 1 = sym (bit-and x y (r .0)) ∙ r .2 in
     let p : bit x (r .0) ≡ 1 = ⊎-elim (λ z. absurd (omega (arith, ap (λ b. b * bit y (r .0)) z))) (λ o. o) (bit-cases x (r .0)) in
     let q : bit y (r .0) ≡ 1 = omega (arith, ap (λ b. b * bit y (r .0)) p) in
-    (r .0, elim (decLt (r .0) n) [ yes l ↦ l | no l ↦ absurd (omega (arith, bit-above-zero x n (r .0) h (omega arith))) ], p, q)
+    (r .0, bit-one-lt n x (r .0) h p, p, q)
+
+pub or-zero : (x y : ℕ) → bitOr x y ≡ 0 → (x ≡ 0) × (y ≡ 0)
+or-zero x y e = (omega (arith, or-add-and x y, and-le-r x y), omega (arith, or-add-and x y, and-le-l x y))
 
 -- ---- what the code's masks give
 
--- 1 << j in a word, as the prover states a shift
+-- 1 << j as a word
 pub one-shl : (j : ℕ) → j < 64 → (1 * 2 ^ j) % 2 ^ 64 ≡ 2 ^ j
 one-shl j h = ap (λ y. y % 2 ^ 64) (one-mul (2 ^ j)) ∙ mod-eq-of-lt (pow-lt h)
 
@@ -87,7 +101,7 @@ or-pow x j =
 
 pub and-not-pow : (n x j : ℕ) → x < 2 ^ n → j < n → bitAnd x ((2 ^ n - 1) - 2 ^ j) ≡ withoutBit x j
 and-not-pow n x j h l =
-    bits-determine n _ _ (lt-of-le-of-lt (and-le-l x ((2 ^ n - 1) - 2 ^ j)) h) (lt-of-le-of-lt (clear-le x j) h) (λ k kn. bit-and x ((2 ^ n - 1) - 2 ^ j) k ∙ at k kn)
+    bits-determine n _ _ (lt-of-le-of-lt (and-le-l x ((2 ^ n - 1) - 2 ^ j)) h) (clear-below n x j h) (λ k kn. bit-and x ((2 ^ n - 1) - 2 ^ j) k ∙ at k kn)
   where
     at : (k : ℕ) → k < n → bit x k * bit ((2 ^ n - 1) - 2 ^ j) k ≡ bit (withoutBit x j) k
     at k kn =

@@ -10,14 +10,23 @@ use Rattle.word.specs.Wrap.{minus}
 
 -- ---- the difference
 
-pub minus-add : (x y : ℕ) → x < 2 ^ 64 → (minus x y + y) % 2 ^ 64 ≡ x
+pub minus-lt : (x y : ℕ) → minus x y < 2 ^ 64
 unfolding minus
-minus-add x y h = omega arith
+minus-lt x y = omega arith
 
--- the difference is the only word that y added to wraps back to x
-pub minus-only : (r x y : ℕ) → r < 2 ^ 64 → (r + y) % 2 ^ 64 ≡ x → r ≡ minus x y
+-- with y added the difference leaves the remainder of x
+pub minus-add : (x y : ℕ) → Congruent (2 ^ 64) (minus x y + y) x
 unfolding minus
-minus-only r x y h e = omega arith
+minus-add x y = omega arith
+
+-- and is the only word that does
+pub minus-congruent : (r x y : ℕ) → r < 2 ^ 64 → Congruent (2 ^ 64) (r + y) x → r ≡ minus x y
+unfolding minus
+minus-congruent r x y h e = omega arith
+
+-- so it is the only one that y added to wraps back to the word x
+pub minus-only : (r x y : ℕ) → r < 2 ^ 64 → (r + y) % 2 ^ 64 ≡ x → r ≡ minus x y
+minus-only r x y h e = minus-congruent r x y h (omega arith)
 
 -- ---- the product
 

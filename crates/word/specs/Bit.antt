@@ -1,4 +1,5 @@
--- The bits of a word, by division: one bit, a word with one bit set or cleared, how many are set, and the lowest that is set.
+-- The bits of a word, by division: one bit, a word with one bit set or cleared, the word of given bits, how many are set, and the
+-- lowest that is set.
 -- Definitions only. Assumes nothing.
 use mathlib.Core.Path.{_≡_}
 use mathlib.Core.Bool.{Bool}
@@ -21,6 +22,10 @@ withBit x j = x + (1 - bit x j) * 2 ^ j
 -- x with bit j cleared: 2 ^ j less where it was set
 unfoldable pub withoutBit : ℕ → ℕ → ℕ
 withoutBit x j = x - bit x j * 2 ^ j
+
+-- the word whose bit j is f j
+unfoldable pub ofBits : (ℕ → ℕ) → ℕ
+ofBits f = sum 64 (λ j. f j * 2 ^ j)
 
 -- how many bits of a word are set
 unfoldable pub bitCount : ℕ → ℕ

@@ -6,9 +6,18 @@ use lugloquat::sys::Answer;
 #[derive(Clone, Copy, Debug)]
 pub enum Call {
     Empty,
+    Insert(Edges),
+    Delete(Edges),
     PathCount { from: usize, to: usize },
     Recount,
     Validate,
+}
+
+/// The edges that an edit names: one, or from each vertex of a mask to v and from v to each vertex of another.
+#[derive(Clone, Copy, Debug)]
+pub enum Edges {
+    One { from: usize, to: usize },
+    At { v: usize, predecessors: u64, successors: u64 },
 }
 
 /// The buffers of a case.
@@ -41,19 +50,11 @@ pub struct Outcome {
 }
 
 const fn numbered(call: &'static str, number: u64) -> Outcome {
-    Outcome {
-        call,
-        number,
-        said: None,
-    }
+    Outcome { call, number, said: None }
 }
 
 const fn saying(call: &'static str, value: u64) -> Outcome {
-    Outcome {
-        call,
-        number: 0,
-        said: Some(value),
-    }
+    Outcome { call, number: 0, said: Some(value) }
 }
 
 /// Every outcome that document 01 allows.
@@ -61,6 +62,32 @@ pub const ALLOWED: &[Outcome] = &[
     numbered("empty", 0),
     numbered("empty", 1),
     numbered("empty", 2),
+    numbered("insert_edge", 0),
+    numbered("insert_edge", 1),
+    numbered("insert_edge", 2),
+    numbered("insert_edge", 3),
+    numbered("insert_edge", 5),
+    numbered("insert_edge", 6),
+    numbered("insert_edge", 8),
+    numbered("delete_edge", 0),
+    numbered("delete_edge", 1),
+    numbered("delete_edge", 2),
+    numbered("delete_edge", 3),
+    numbered("delete_edge", 7),
+    numbered("insert_edges_at", 0),
+    numbered("insert_edges_at", 1),
+    numbered("insert_edges_at", 2),
+    numbered("insert_edges_at", 3),
+    numbered("insert_edges_at", 4),
+    numbered("insert_edges_at", 5),
+    numbered("insert_edges_at", 6),
+    numbered("insert_edges_at", 8),
+    numbered("delete_edges_at", 0),
+    numbered("delete_edges_at", 1),
+    numbered("delete_edges_at", 2),
+    numbered("delete_edges_at", 3),
+    numbered("delete_edges_at", 4),
+    numbered("delete_edges_at", 7),
     numbered("path_count", 0),
     numbered("path_count", 1),
     numbered("path_count", 2),
@@ -76,14 +103,42 @@ pub const ALLOWED: &[Outcome] = &[
     numbered("validate", 2),
 ];
 
+impl Edges {
+    pub fn one(from: usize, to: usize) -> Edges {
+        Edges::One { from, to }
+    }
+
+    /// From each vertex of the first mask to v, and from v to each vertex of the second.
+    pub fn at(v: usize, predecessors: u64, successors: u64) -> Edges {
+        Edges::At { v, predecessors, successors }
+    }
+}
+
 impl Call {
+    /// The insertion of these edges, or their deletion.
+    pub fn edit(inserts: bool, edges: Edges) -> Call {
+        if inserts {
+            Call::Insert(edges)
+        } else {
+            Call::Delete(edges)
+        }
+    }
+
     pub fn name(&self) -> &'static str {
         match self {
             Call::Empty => "empty",
+            Call::Insert(Edges::One { .. }) => "insert_edge",
+            Call::Delete(Edges::One { .. }) => "delete_edge",
+            Call::Insert(Edges::At { .. }) => "insert_edges_at",
+            Call::Delete(Edges::At { .. }) => "delete_edges_at",
             Call::PathCount { .. } => "path_count",
             Call::Recount => "recount",
             Call::Validate => "validate",
         }
+    }
+
+    pub fn is_edit(&self) -> bool {
+        matches!(self, Call::Insert(_) | Call::Delete(_))
     }
 
     /// Whether the value of an accepted call is 1 for yes and 0 for no.

@@ -1,4 +1,4 @@
-//! The comparison of one case: the model's answer and buffers against those of the library, with guards around what is lent.
+//! The comparison of one case: the answer and buffers wanted against those of the library, with guards around what is lent.
 
 use crate::call::{Buffers, Call, Model};
 use crate::library::{Lent, Way};
@@ -12,6 +12,15 @@ pub struct Case {
     pub call: Call,
     pub lent: Buffers,
     pub kind: &'static str,
+    /// What is known of it without the model, if anything is.
+    pub known: Option<Wanted>,
+}
+
+/// What the library has to answer and to leave, and who says so.
+pub struct Wanted {
+    pub by: &'static str,
+    pub answer: Answer,
+    pub after: Buffers,
 }
 
 /// What the model and the library agree on, and how many library calls were made.
@@ -24,14 +33,15 @@ pub struct Compared {
 /// Where a buffer first differs: the place counts from the first word lent, so that one before it is negative.
 struct Difference {
     place: isize,
-    model: u64,
+    wanted: u64,
     library: u64,
 }
 
-/// The model and the library disagree.
+/// The library does not answer or leave what is wanted.
 pub struct Mismatch {
     way: &'static str,
-    model: Answer,
+    by: &'static str,
+    wanted: Answer,
     library: Answer,
     difference: Option<Difference>,
 }
@@ -71,45 +81,50 @@ impl Guarded {
         let at = (0..self.all.len()).find(|&at| self.all[at] != library.all[at])?;
         Some(Difference {
             place: at as isize - self.start as isize,
-            model: self.all[at],
+            wanted: self.all[at],
             library: library.all[at],
         })
     }
 }
 
-/// Runs the case on the model once and on the library by each way, and compares the answers, every word lent, and every guard.
+/// Runs the case on the model once and on the library by each way, and compares the answers, every word lent, and every guard: with
+/// the model's, and with those known without it.
 pub fn compare(case: &Case, model: Model, ways: &[Way], rng: &mut Rng) -> Result<Compared, Box<Mismatch>> {
     let mut after = case.lent.clone();
     let answer = model(case.n, &case.call, &mut after);
+    let by = "the model";
+    let modelled = Wanted { by, answer, after };
     let mut calls = 0;
     for way in ways {
         if !way.only_without_words || case.lent.sheet.is_empty() {
-            compare_by(way, case, answer, &after, rng)?;
+            compare_by(way, case, &modelled, rng)?;
             calls += 1;
         }
     }
+    let after = modelled.after;
     Ok(Compared { answer, after, calls })
 }
 
-fn compare_by(way: &Way, case: &Case, model: Answer, after: &Buffers, rng: &mut Rng) -> Result<(), Box<Mismatch>> {
+fn compare_by(way: &Way, case: &Case, modelled: &Wanted, rng: &mut Rng) -> Result<(), Box<Mismatch>> {
     let mut sheet = Guarded::new(&case.lent.sheet, rng);
-    let sheet_after = sheet.around(&after.sheet);
-    let lent = Lent {
-        sheet: sheet.pointer(),
-        words: sheet.length,
-    };
+    let all_wanted = case.known.iter().chain([modelled]);
+    let all_wanted: Vec<_> = all_wanted.map(|wanted| (wanted, sheet.around(&wanted.after.sheet))).collect();
+    let lent = Lent { sheet: sheet.pointer(), words: sheet.length };
     // SAFETY: the words lent stand in an allocation of their own, which outlives the call and which nobody else uses.
     let library = unsafe { (way.library)(case.n, &case.call, lent) };
-    let difference = sheet_after.difference(&sheet);
-    if model == library && difference.is_none() {
-        return Ok(());
+    for (wanted, sheet_wanted) in all_wanted {
+        let difference = sheet_wanted.difference(&sheet);
+        if wanted.answer != library || difference.is_some() {
+            return Err(Box::new(Mismatch {
+                way: way.name,
+                by: wanted.by,
+                wanted: wanted.answer,
+                library,
+                difference,
+            }));
+        }
     }
-    Err(Box::new(Mismatch {
-        way: way.name,
-        model,
-        library,
-        difference,
-    }))
+    Ok(())
 }
 
 impl fmt::Display for Case {
@@ -122,15 +137,15 @@ impl fmt::Display for Case {
 impl fmt::Display for Mismatch {
     fn fmt(&self, f: &mut fmt::Formatter<'_>) -> fmt::Result {
         let answer = |a: &Answer| format!("number {}, place {}, value {}", a.number, a.place, a.value);
-        writeln!(f, "  by {}", self.way)?;
-        writeln!(f, "  model:   {}", answer(&self.model))?;
+        writeln!(f, "  by {}, against {}", self.way, self.by)?;
+        writeln!(f, "  wanted:  {}", answer(&self.wanted))?;
         writeln!(f, "  library: {}", answer(&self.library))?;
         match &self.difference {
             None => write!(f, "  every word and guard is the same"),
             Some(d) => write!(
                 f,
-                "  first difference: word {}, model {:#x}, library {:#x}",
-                d.place, d.model, d.library
+                "  first difference: word {}, wanted {:#x}, library {:#x}",
+                d.place, d.wanted, d.library
             ),
         }
     }

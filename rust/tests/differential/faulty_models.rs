@@ -1,6 +1,7 @@
 //! Faulty models: each is the model with one small change, which the comparison with the library has to notice.
 
-use crate::call::{accepted, refused, Buffers, Call, Model};
+use crate::call::{accepted, refused, Buffers, Call};
+use crate::faulty::{clear_stray_bits, is_accepted, is_valid, recount, recounted, right, when, Faults};
 use crate::graphs;
 use crate::model::{self, Counts, Graph};
 use crate::recurrence;
@@ -10,7 +11,7 @@ use lugloquat::sys::Answer;
 pub const ANY: &str = "any call";
 
 /// The faults by the call on which they show.
-pub const FAULTS: &[(&str, &[(&str, Model)])] = &[
+pub const FAULTS: &[(&str, Faults)] = &[
     (ANY, OF_SIZES),
     (ANY, OF_ANSWERS),
     ("empty", OF_EMPTY),
@@ -22,7 +23,7 @@ pub const FAULTS: &[(&str, &[(&str, Model)])] = &[
 ];
 
 /// n or the length is taken wrongly.
-const OF_SIZES: &[(&str, Model)] = &[
+const OF_SIZES: Faults = &[
     ("the length is looked at before n", |n, call, lent| {
         let fits = lent.sheet.len() == n.wrapping_mul(n).wrapping_add(n);
         let such = |answer: &Answer| answer.number == 1 && !fits;
@@ -56,7 +57,7 @@ const OF_SIZES: &[(&str, Model)] = &[
 ];
 
 /// The answer is wrong whatever the call.
-const OF_ANSWERS: &[(&str, Model)] = &[
+const OF_ANSWERS: Faults = &[
     ("the value is not 0 when refused", |n, call, lent| {
         when(n, call, lent, is_refused, |_, answer, _| answer.value = 1)
     }),
@@ -71,7 +72,7 @@ const OF_ANSWERS: &[(&str, Model)] = &[
     }),
 ];
 
-const OF_EMPTY: &[(&str, Model)] = &[
+const OF_EMPTY: Faults = &[
     ("the diagonal is 0", |n, call, lent| {
         when(n, call, lent, is_accepted, |n, _, sheet| {
             (0..n).for_each(|i| sheet[model::count_index(n, i, i)] = 0)
@@ -92,7 +93,7 @@ const OF_EMPTY: &[(&str, Model)] = &[
     }),
 ];
 
-const OF_PATH_COUNT: &[(&str, Model)] = &[
+const OF_PATH_COUNT: Faults = &[
     ("transposed", |n, call, lent| {
         with_vertices(n, call, lent, |from, to| (to, from))
     }),
@@ -120,7 +121,7 @@ const OF_PATH_COUNT: &[(&str, Model)] = &[
     }),
 ];
 
-const OF_RECOUNT: &[(&str, Model)] = &[
+const OF_RECOUNT: Faults = &[
     ("the value is one too many", |n, call, lent| {
         when(n, call, lent, is_accepted, |_, answer, _| answer.value += 1)
     }),
@@ -161,7 +162,7 @@ const OF_RECOUNT: &[(&str, Model)] = &[
     }),
     ("a sheet that is not valid is refused", |n, call, lent| {
         let valid = is_valid(n, lent);
-        if sizes_right(n, &lent.sheet) && !valid {
+        if model::check_sizes(n, &lent.sheet).is_ok() && !valid {
             refused(9)
         } else {
             right(n, call, lent)
@@ -170,7 +171,7 @@ const OF_RECOUNT: &[(&str, Model)] = &[
 ];
 
 /// An accepted recount writes wrong words.
-const OF_COUNTS: &[(&str, Model)] = &[
+const OF_COUNTS: Faults = &[
     ("a count is taken modulo 2 to the 62", |n, call, lent| {
         when(n, call, lent, is_accepted, |n, _, sheet| {
             sheet[n..].iter_mut().for_each(|count| *count %= 1 << 62)
@@ -200,7 +201,7 @@ const OF_COUNTS: &[(&str, Model)] = &[
     }),
 ];
 
-const OF_VALIDATE: &[(&str, Model)] = &[
+const OF_VALIDATE: Faults = &[
     ("always 0", |n, call, lent| {
         when(n, call, lent, is_accepted, |_, answer, _| answer.value = 0)
     }),
@@ -236,7 +237,7 @@ const OF_VALIDATE: &[(&str, Model)] = &[
 ];
 
 /// Validate says 1 of a sheet because it does not look for what is wrong with it.
-const OF_BELIEF: &[(&str, Model)] = &[
+const OF_BELIEF: Faults = &[
     ("a self loop is not seen", |n, call, lent| {
         as_if(n, call, lent, clear_self_loops)
     }),
@@ -279,17 +280,8 @@ const OF_BELIEF: &[(&str, Model)] = &[
     }),
 ];
 
-fn is_accepted(answer: &Answer) -> bool {
-    answer.number == 0
-}
-
 fn is_refused(answer: &Answer) -> bool {
     answer.number != 0
-}
-
-/// The right answer.
-fn right(n: usize, call: &Call, lent: &mut Buffers) -> Answer {
-    model::answer(n, call, lent)
 }
 
 /// Accepts, and does nothing, if told to.
@@ -301,24 +293,9 @@ fn accept_if(told: bool, n: usize, call: &Call, lent: &mut Buffers) -> Answer {
     }
 }
 
-/// The right answer and words; if the answer is such, they are changed.
-fn when(
-    n: usize,
-    call: &Call,
-    lent: &mut Buffers,
-    such: impl Fn(&Answer) -> bool,
-    change: impl Fn(usize, &mut Answer, &mut [u64]),
-) -> Answer {
-    let mut answer = right(n, call, lent);
-    if such(&answer) {
-        change(n, &mut answer, &mut lent.sheet);
-    }
-    answer
-}
-
 /// The right answer, and the right counts of a recount, for a changed sheet in place of the one lent.
 fn as_if(n: usize, call: &Call, lent: &mut Buffers, change: impl Fn(usize, &mut [u64])) -> Answer {
-    if !sizes_right(n, &lent.sheet) {
+    if model::check_sizes(n, &lent.sheet).is_err() {
         return right(n, call, lent);
     }
     let mut seen = lent.clone();
@@ -343,7 +320,7 @@ fn with_vertices(n: usize, call: &Call, lent: &mut Buffers, other: impl Fn(usize
 
 /// The right answer, but on a sheet with a cycle and no stray bit what `valid` says.
 fn believing(n: usize, call: &Call, lent: &mut Buffers, valid: impl Fn(&Graph, &Counts) -> bool) -> Answer {
-    if !sizes_right(n, &lent.sheet) || model::has_stray_bit(n, &lent.sheet) {
+    if model::check_sizes(n, &lent.sheet).is_err() || model::has_stray_bit(n, &lent.sheet) {
         return right(n, call, lent);
     }
     let graph = model::graph_of(n, &lent.sheet);
@@ -351,27 +328,6 @@ fn believing(n: usize, call: &Call, lent: &mut Buffers, valid: impl Fn(&Graph, &
         accepted(u64::from(valid(&graph, &model::stored_counts(n, &lent.sheet))))
     } else {
         right(n, call, lent)
-    }
-}
-
-/// Whether n and the length of the sheet are right.
-fn sizes_right(n: usize, sheet: &[u64]) -> bool {
-    (1..=64).contains(&n) && sheet.len() == n + n * n
-}
-
-fn is_valid(n: usize, lent: &Buffers) -> bool {
-    right(n, &Call::Validate, &mut lent.clone()) == accepted(1)
-}
-
-/// The recounted sheet, if the recount is accepted.
-fn recounted(n: usize, sheet: &[u64]) -> Option<Vec<u64>> {
-    let mut lent = Buffers { sheet: sheet.to_vec() };
-    is_accepted(&right(n, &Call::Recount, &mut lent)).then_some(lent.sheet)
-}
-
-fn recount(n: usize, sheet: &mut [u64]) {
-    if let Some(other) = recounted(n, sheet) {
-        sheet.copy_from_slice(&other);
     }
 }
 
@@ -403,9 +359,4 @@ fn change_last(sheet: &mut [u64]) {
 
 fn clear_self_loops(n: usize, sheet: &mut [u64]) {
     (0..n).for_each(|i| sheet[i] &= !(1 << i));
-}
-
-/// Clears the bits at n and above in the first n words, or in those there are.
-fn clear_stray_bits(n: usize, sheet: &mut [u64]) {
-    (sheet.iter_mut().take(n)).for_each(|row| *row &= u64::MAX >> (64 - n));
 }

@@ -1,6 +1,6 @@
 //! The library as the comparison sees it: through the C declarations and through the safe wrapper.
 
-use crate::call::Call;
+use crate::call::{Call, Edges};
 use lugloquat::sys::{self, Answer};
 use std::{ptr, slice};
 
@@ -45,12 +45,20 @@ pub const WAYS: &[Way] = &[BY_C, BY_WRAPPER, BY_C_WITH_NULL];
 
 /// # Safety
 /// As for [`Library`].
-pub unsafe fn by_c(n: usize, call: &Call, lent: Lent) -> Answer {
+pub unsafe fn by_c(n: usize, call: &Call, Lent { sheet, words }: Lent) -> Answer {
     match *call {
-        Call::Empty => sys::lugloquat_empty(n, lent.sheet, lent.words),
-        Call::PathCount { from, to } => sys::lugloquat_path_count(n, lent.sheet, lent.words, from, to),
-        Call::Recount => sys::lugloquat_recount(n, lent.sheet, lent.words),
-        Call::Validate => sys::lugloquat_validate(n, lent.sheet, lent.words),
+        Call::Empty => sys::lugloquat_empty(n, sheet, words),
+        Call::Insert(Edges::One { from, to }) => sys::lugloquat_insert_edge(n, sheet, words, from, to),
+        Call::Delete(Edges::One { from, to }) => sys::lugloquat_delete_edge(n, sheet, words, from, to),
+        Call::Insert(Edges::At { v, predecessors, successors }) => {
+            sys::lugloquat_insert_edges_at(n, sheet, words, v, predecessors, successors)
+        }
+        Call::Delete(Edges::At { v, predecessors, successors }) => {
+            sys::lugloquat_delete_edges_at(n, sheet, words, v, predecessors, successors)
+        }
+        Call::PathCount { from, to } => sys::lugloquat_path_count(n, sheet, words, from, to),
+        Call::Recount => sys::lugloquat_recount(n, sheet, words),
+        Call::Validate => sys::lugloquat_validate(n, sheet, words),
     }
 }
 
@@ -64,6 +72,14 @@ unsafe fn by_wrapper(n: usize, call: &Call, lent: Lent) -> Answer {
     let sheet = slice::from_raw_parts_mut(lent.sheet, lent.words);
     let result = match *call {
         Call::Empty => lugloquat::empty(n, sheet),
+        Call::Insert(Edges::One { from, to }) => lugloquat::insert_edge(n, sheet, from, to),
+        Call::Delete(Edges::One { from, to }) => lugloquat::delete_edge(n, sheet, from, to),
+        Call::Insert(Edges::At { v, predecessors, successors }) => {
+            lugloquat::insert_edges_at(n, sheet, v, predecessors, successors)
+        }
+        Call::Delete(Edges::At { v, predecessors, successors }) => {
+            lugloquat::delete_edges_at(n, sheet, v, predecessors, successors)
+        }
         Call::PathCount { from, to } => lugloquat::path_count(n, sheet, from, to),
         Call::Recount => lugloquat::recount(n, sheet),
         Call::Validate => lugloquat::validate(n, sheet),

@@ -1,4 +1,4 @@
-//! The library against a plain model of document 01, by random calls on random sheets.
+//! The library against a plain model of document 01, by random calls on random sheets and by lists of edits.
 //!
 //! `LUGLOQUAT_SEED` gives another seed, `LUGLOQUAT_CALLS` another number of library calls, both in decimal. The exit status is
 //! not 0 if the library and the model disagree anywhere, if a fault put in on purpose goes unnoticed, or if too little came up.
@@ -7,14 +7,20 @@
 //! generator of cases, and some faults.
 
 mod agreement;
+mod arguments;
+mod book;
 mod call;
 mod cases;
 mod compare;
+mod edits;
 mod faults;
+mod faulty;
+mod faulty_edits;
 mod faulty_models;
 mod fixed;
 mod graphs;
 mod library;
+mod lists;
 mod model;
 mod recurrence;
 mod rng;
@@ -26,7 +32,7 @@ use std::{env, process::ExitCode, time::Instant};
 use tally::Tally;
 
 const SEED: u64 = 20_260_801;
-const CALLS: u64 = 500_000;
+const CALLS: u64 = 600_000;
 const _: () = assert!(CALLS >= 200_000, "a run of the default length makes at least so many calls");
 
 fn main() -> ExitCode {
@@ -49,8 +55,8 @@ fn run() -> Result<(), String> {
     let tally = check_at_random(seed, calls)?;
     let seconds = start.elapsed().as_secs_f64();
     println!(
-        "random: {} cases, {} calls compared in {seconds:.1} seconds",
-        tally.cases, tally.calls
+        "random: {} rounds, {} calls, of them {} edits, compared in {seconds:.1} seconds",
+        tally.rounds, tally.calls, tally.edits
     );
     tally.print();
     if calls >= CALLS {
@@ -82,7 +88,7 @@ fn check_faults(seed: u64) -> Result<(), String> {
     let start = Instant::now();
     let caught = faults::check(!seed)?;
     println!(
-        "self-test: all {} faults caught, in {} trials of at most {} cases each; {} calls in {:.1} seconds",
+        "self-test: all {} faults caught, in {} trials of at most {} rounds each; {} calls in {:.1} seconds",
         caught.faults,
         caught.trials,
         caught.most,
@@ -97,11 +103,14 @@ fn check_faults(seed: u64) -> Result<(), String> {
 fn check_at_random(seed: u64, calls: u64) -> Result<Tally, String> {
     let mut tally = Tally::new();
     while tally.calls < calls {
-        let mut rng = Rng::of_case(seed, tally.cases);
-        let case = cases::make(&mut rng);
-        let at = |what: String| format!("seed {seed}, case {}: {case}\n{what}", tally.cases);
-        let compared = compare::compare(&case, model::answer, library::WAYS, &mut rng).map_err(|found| at(found.to_string()))?;
-        tally.enter(&case, &compared)?;
+        let mut rng = Rng::of_round(seed, tally.rounds);
+        for (place, case) in cases::make(&mut rng).iter().enumerate() {
+            let at = |what: String| format!("seed {seed}, round {}, call {place}: {case}\n{what}", tally.rounds);
+            let compared =
+                compare::compare(case, model::answer, library::WAYS, &mut rng).map_err(|found| at(found.to_string()))?;
+            tally.enter(case, &compared)?;
+        }
+        tally.rounds += 1;
     }
     Ok(tally)
 }

@@ -4,6 +4,7 @@
 //! edge runs forward.
 
 use crate::call::{accepted, refused, Buffers, Call};
+use crate::edits::{self, DELETION, INSERTION};
 use lugloquat::sys::Answer;
 
 /// `graph[i][j]` is whether an edge runs from i to j.
@@ -16,12 +17,14 @@ pub type Counts = Vec<Vec<u64>>;
 pub const LISTED: usize = 8;
 
 /// The value of an accepted call, or the number by which it is refused.
-type Verdict = Result<u64, u64>;
+pub type Verdict = Result<u64, u64>;
 
 /// The model's answer to any call.
 pub fn answer(n: usize, call: &Call, lent: &mut Buffers) -> Answer {
     let verdict = match *call {
         Call::Empty => empty(n, &mut lent.sheet),
+        Call::Insert(edges) => edits::edit(n, &mut lent.sheet, &edges, &INSERTION),
+        Call::Delete(edges) => edits::edit(n, &mut lent.sheet, &edges, &DELETION),
         Call::PathCount { from, to } => path_count(n, &lent.sheet, from, to),
         Call::Recount => recount(n, &mut lent.sheet),
         Call::Validate => validate(n, &lent.sheet),
@@ -68,7 +71,7 @@ fn validate(n: usize, sheet: &[u64]) -> Verdict {
 }
 
 /// The conditions of every call: 1, n is not 1 to 64; 2, the sheet isn't n + n × n words.
-fn check_sizes(n: usize, sheet: &[u64]) -> Result<(), u64> {
+pub fn check_sizes(n: usize, sheet: &[u64]) -> Result<(), u64> {
     if !(1..=64).contains(&n) {
         return Err(1);
     }
@@ -84,8 +87,13 @@ pub fn count_index(n: usize, i: usize, j: usize) -> usize {
 }
 
 /// Whether bit j of the word is 1.
-fn bit(word: u64, j: usize) -> bool {
+pub fn bit(word: u64, j: usize) -> bool {
     (word >> j) % 2 == 1
+}
+
+/// The vertices in a mask.
+pub fn members(mask: u64) -> impl Iterator<Item = usize> {
+    (0..64).filter(move |&j| bit(mask, j))
 }
 
 /// Whether a row has a bit at n or above.
@@ -94,8 +102,8 @@ pub fn has_stray_bit(n: usize, sheet: &[u64]) -> bool {
 }
 
 /// The number of set bits in all rows.
-fn set_bits(n: usize, sheet: &[u64]) -> u64 {
-    (0..n).map(|i| (0..64).filter(|&j| bit(sheet[i], j)).count() as u64).sum()
+pub fn set_bits(n: usize, sheet: &[u64]) -> u64 {
+    (0..n).map(|i| members(sheet[i]).count() as u64).sum()
 }
 
 /// The edges that the rows name between vertices below n.
@@ -204,10 +212,11 @@ pub fn order_of(graph: &Graph) -> Option<Vec<usize>> {
 pub fn counts_by_order(graph: &Graph) -> Option<Counts> {
     let n = graph.len();
     let order = order_of(graph)?;
+    let successors: Vec<Vec<usize>> = (0..n).map(|a| (0..n).filter(|&b| graph[a][b]).collect()).collect();
     let mut counts = identity(n);
     for from in &mut counts {
         for &a in &order {
-            for b in (0..n).filter(|&b| graph[a][b]) {
+            for &b in &successors[a] {
                 from[b] = from[b].checked_add(from[a]).expect("a count is at most 2 to the 62");
             }
         }

@@ -1,4 +1,4 @@
-//! A seeded generator of words (splitmix64), so that a seed and the number of a case give that case again.
+//! A seeded generator of words (splitmix64), so that a seed and the number of a round give that round again.
 
 pub struct Rng(u64);
 
@@ -7,8 +7,8 @@ impl Rng {
         Rng(seed)
     }
 
-    /// The generator of one case of a run.
-    pub fn of_case(seed: u64, index: u64) -> Rng {
+    /// The generator of one round of a run.
+    pub fn of_round(seed: u64, index: u64) -> Rng {
         let run = Rng(seed).word();
         Rng(run ^ Rng(index).word())
     }

@@ -8,9 +8,12 @@ use crate::rng::Rng;
 /// A maker of one kind of sheet. It gives nothing if this n has no such sheet, or if none came of what was drawn.
 type Maker = fn(&mut Rng, usize) -> Option<Vec<u64>>;
 
+/// The name of the kind that is valid.
+pub const VALID: &str = "valid";
+
 /// Each kind: how often, its name, its maker.
 const KINDS: &[(usize, (&str, Maker))] = &[
-    (40, ("valid", valid)),
+    (40, (VALID, valid)),
     (12, ("acyclic rows, random counts", random_counts)),
     (5, ("one count one more or less", count_one_off)),
     (5, ("one bit of a count flipped", count_bit_flipped)),
@@ -32,6 +35,8 @@ const KINDS: &[(usize, (&str, Maker))] = &[
     (2, ("the core, the recurrence holds", recurrence_on_core)),
     (2, ("a fan closed, the recurrence holds", recurrence_on_fan)),
     (5, ("a random graph, small counts", random_graph)),
+    (3, ("one word flipped", word_flipped)),
+    (6, ("random rows, most counts 0", most_counts_0)),
     (4, ("random words", random_words)),
     (4, ("sparse random words", sparse_words)),
     (1, ("all ones", all_ones)),
@@ -67,7 +72,7 @@ fn counts_of_acyclic(graph: &Graph) -> Counts {
 }
 
 /// The valid sheet of an acyclic graph.
-fn valid_sheet_of(graph: &Graph) -> Vec<u64> {
+pub fn valid_sheet_of(graph: &Graph) -> Vec<u64> {
     sheet_of(graph, &counts_of_acyclic(graph))
 }
 
@@ -276,6 +281,24 @@ fn random_graph(rng: &mut Rng, n: usize) -> Option<Vec<u64>> {
     let graph = graphs::random(rng, n, self_loops);
     let counts = (0..n).map(|_| (0..n).map(|_| rng.word() % 4).collect()).collect();
     Some(sheet_of(&graph, &counts))
+}
+
+fn word_flipped(rng: &mut Rng, n: usize) -> Option<Vec<u64>> {
+    let mut sheet = valid(rng, n)?;
+    let at = rng.below(sheet.len());
+    sheet[at] = !sheet[at];
+    Some(sheet)
+}
+
+/// Edits of such a sheet are accepted, and reach any word.
+fn most_counts_0(rng: &mut Rng, n: usize) -> Option<Vec<u64>> {
+    let mut sheet = random_words(rng, n)?;
+    for count in &mut sheet[n..] {
+        if !rng.one_in(4) {
+            *count = 0;
+        }
+    }
+    Some(sheet)
 }
 
 fn random_words(rng: &mut Rng, n: usize) -> Option<Vec<u64>> {

@@ -2,6 +2,7 @@
 
 use crate::call::{Call, Outcome, ALLOWED};
 use crate::compare::{Case, Compared};
+use crate::lists::{BOOK, START};
 use crate::sheets;
 use std::collections::BTreeMap;
 
@@ -9,20 +10,32 @@ use std::collections::BTreeMap;
 const LEAST: u64 = 200;
 
 pub struct Tally {
-    pub cases: u64,
+    pub rounds: u64,
     pub calls: u64,
+    /// The calls that are edits.
+    pub edits: u64,
     outcomes: Vec<u64>,
     recounts: [u64; 65],
+    edits_accepted: [u64; 65],
+    /// The cases held to the book, and the lists back at a start that is valid and at one that is not.
+    by_book: u64,
+    back_at_valid: u64,
+    back_at_other: u64,
     kinds: BTreeMap<&'static str, u64>,
 }
 
 impl Tally {
     pub fn new() -> Tally {
         Tally {
-            cases: 0,
+            rounds: 0,
             calls: 0,
+            edits: 0,
             outcomes: vec![0; ALLOWED.len()],
             recounts: [0; 65],
+            edits_accepted: [0; 65],
+            by_book: 0,
+            back_at_valid: 0,
+            back_at_other: 0,
             kinds: sheets::kinds().map(|kind| (kind, 0)).collect(),
         }
     }
@@ -33,31 +46,50 @@ impl Tally {
         let Some(at) = ALLOWED.iter().position(|allowed| *allowed == outcome) else {
             return Err(format!("{case}\n  an outcome that document 01 does not allow: {outcome:?}"));
         };
-        self.cases += 1;
         self.calls += compared.calls;
         self.outcomes[at] += 1;
         *self.kinds.entry(case.kind).or_default() += 1;
-        if matches!(case.call, Call::Recount) && outcome.number == 0 {
-            self.recounts[case.n] += 1;
+        if case.call.is_edit() {
+            self.edits += compared.calls;
+        }
+        if outcome.number == 0 {
+            match case.call {
+                Call::Recount => self.recounts[case.n] += 1,
+                Call::Insert(_) | Call::Delete(_) => self.edits_accepted[case.n] += 1,
+                _ => (),
+            }
+        }
+        match case.known.as_ref().map(|known| known.by) {
+            Some(BOOK) => self.by_book += 1,
+            Some(START) if case.kind == sheets::VALID => self.back_at_valid += 1,
+            Some(START) => self.back_at_other += 1,
+            _ => (),
         }
         Ok(())
     }
 
     pub fn print(&self) {
-        println!("{:<12}{:>8}{:>8}{:>10}", "call", "number", "value", "cases");
+        println!("{:<17}{:>8}{:>8}{:>10}", "call", "number", "value", "cases");
         for (Outcome { call, number, said }, times) in ALLOWED.iter().zip(&self.outcomes) {
             let said = said.map_or(String::new(), |value| value.to_string());
-            println!("{call:<12}{number:>8}{said:>8}{times:>10}");
+            println!("{call:<17}{number:>8}{said:>8}{times:>10}");
         }
-        let (rarest, times) = (1..=64)
-            .map(|n| (n, self.recounts[n]))
-            .min_by_key(|&(_, times)| times)
-            .unwrap_or((0, 0));
-        println!("accepted recounts for each n of 1 to 64: at least {times} (n {rarest})");
+        for (what, times) in [("recounts", &self.recounts), ("edits", &self.edits_accepted)] {
+            let (rarest, times) = (1..=64)
+                .map(|n| (n, times[n]))
+                .min_by_key(|&(_, times)| times)
+                .unwrap_or((0, 0));
+            println!("accepted {what} for each n of 1 to 64: at least {times} (n {rarest})");
+        }
         let (kind, times) = self.kinds.iter().min_by_key(|(_, times)| **times).unwrap_or((&"", &0));
         println!(
             "cases for each of {} kinds of sheet: at least {times} ({kind})",
             self.kinds.len()
+        );
+        println!("edits held to the book: {}", self.by_book);
+        println!(
+            "lists back at their start: {} on valid sheets, {} on others",
+            self.back_at_valid, self.back_at_other
         );
     }
 
@@ -68,8 +100,17 @@ impl Tally {
                 return Err(format!("{outcome:?} came up {times} times, fewer than {LEAST}"));
             }
         }
-        if let Some(n) = (1..=64).find(|&n| self.recounts[n] == 0) {
-            return Err(format!("no recount of {n} vertices was accepted"));
+        if let Some(n) = (1..=64).find(|&n| self.recounts[n] == 0 || self.edits_accepted[n] == 0) {
+            return Err(format!("no recount or no edit of {n} vertices was accepted"));
+        }
+        for (what, times) in [
+            ("edits held to the book", self.by_book),
+            ("lists back at a valid start", self.back_at_valid),
+            ("lists back at another start", self.back_at_other),
+        ] {
+            if times < LEAST {
+                return Err(format!("{what}: {times}, fewer than {LEAST}"));
+            }
         }
         match self.kinds.iter().find(|(_, &times)| times == 0) {
             Some((kind, _)) => Err(format!("no sheet of this kind came up: {kind}")),

@@ -46,8 +46,8 @@ same-length-2 c = search needs
 fill-counts-requires : tie.Need-fill-counts-requires
 fill-counts-requires c κs = (search shape-of, search rows-below, c .before .before .before .find-order .ensures .ordered (not-false _ (c .before .before .if3 .left)))
 
-count-edges-requires : tie.Need-count-edges-requires
-count-edges-requires c κs = search recount-shape
+count-set-bits-requires : tie.Need-count-set-bits-requires
+count-set-bits-requires c κs = search recount-shape
 
 accepted-requires : tie.Need-accepted-requires
 accepted-requires c κs = search needs
@@ -71,7 +71,7 @@ recount-spec =
     same-length-2
     returns-3
     fill-counts-requires
-    count-edges-requires
+    count-set-bits-requires
     accepted-requires
     same-length-3
     returns-4)

@@ -2,8 +2,8 @@
 -- left falls with each turn. Assumes nothing.
 use native.Mathlib.Omega.{arith}
 use borrow.Author.Tests.{eqb-true, eqb-false}
-use Rattle.word.proofs.BitLaws.{clear-lt}
-use Rattle.sheet.proofs.RowLaws.{Summing, summing-start, summing-more, summing-done, lowest-lt}
+use Rattle.word.proofs.CountLaws.{lowest-lt, lowest-cleared-lt}
+use Rattle.sheet.proofs.RowLaws.{Summing, summing-start, summing-more, summing-done}
 use Rattle.sheet.proofs.rows.sum_rows.Statement.{statement}
 use Rattle.sheet.proofs.rows.sum_rows.Tie as tie
 
@@ -29,7 +29,7 @@ clear-bit-requires : tie.Need-clear-bit-requires Inv-loop μ-loop
 clear-bit-requires c κs = omega arith
 
 loop-less : tie.Need-loop-less Inv-loop μ-loop
-loop-less c = rw (c .clear-bit .ensures) (clear-lt _ _ (c .before .before .before .before .lowest-bit .ensures .set))
+loop-less c = search lowest-cleared-lt
 
 loop-again : tie.Need-loop-again Inv-loop μ-loop
 loop-again c = search (summing-more, arith)

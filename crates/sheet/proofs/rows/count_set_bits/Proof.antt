@@ -1,4 +1,4 @@
--- `sheet::rows::count_edges` meets its contract: after i turns the total is the number of set bits of the first i rows. Assumes nothing.
+-- `sheet::rows::count_set_bits` meets its contract: after i turns the total is the number of set bits of the first i rows. Assumes nothing.
 use mathlib.Core.Path.{_≡_}
 use Prim.Native.Nat.{_-_, _≤_}
 use native.Mathlib.Omega.{arith}
@@ -7,8 +7,8 @@ use lib.ListN.{getD}
 use Rattle.word.proofs.CountLaws.{bitCount-le}
 use Rattle.sheet.specs.Layout.{setBits}
 use Rattle.sheet.proofs.RowLaws.{setBits-zero, setBits-more, setBits-done, setBits-le}
-use Rattle.sheet.proofs.rows.count_edges.Statement.{statement}
-use Rattle.sheet.proofs.rows.count_edges.Tie as tie
+use Rattle.sheet.proofs.rows.count_set_bits.Statement.{statement}
+use Rattle.sheet.proofs.rows.count_set_bits.Tie as tie
 
 abbrev Inv-loop : tie.InvT-loop
 Inv-loop n sheet total₀ i₀ total i = (i ≤ n) × (total ≡ setBits i sheet)
@@ -46,8 +46,8 @@ loop-again c = (omega arith, search setBits-more)
 returns : tie.Need-returns Inv-loop μ-loop
 returns c = setBits-done _ (c .before .loop .i) _ _ (c .before .loop .inv .1) (omega arith)
 
-pub count-edges-spec : {M : Type 1} → statement M
-count-edges-spec =
+pub count-set-bits-spec : {M : Type 1} → statement M
+count-set-bits-spec =
     tie.close
     (tie.spec
     Inv-loop

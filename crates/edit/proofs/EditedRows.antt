@@ -1,0 +1,206 @@
+-- The laws of the rows after an edit: a row with the bits of a mask set or cleared, and the rows of a mask taken one after the other.
+-- Assumes nothing.
+use mathlib.Core.Path.{_≡_, refl, sym, ap, _∙_}
+use mathlib.Core.Logic.{⊎-elim}
+use mathlib.Core.Bool.{Bool, true, false, _&&_, _||_}
+use mathlib.Core.List.{List}
+use Prim.Native.Nat.{ℕ, _+_, _-_, _^_, _≤_, _<_}
+use native.Mathlib.Decide.{ℕ-discrete}
+use native.Mathlib.Omega.{arith}
+use borrow.Author.Tests.{eq-eqb, ne-eqb}
+use lib.Bits.{bitAnd, bitOr}
+use lib.Dec.{eqb}
+use lib.ListN.{length, getD, set, length-set}
+use lib.Seq.{getD-set-same, getD-set-other}
+use Rattle.word.proofs.CountLaws.{lowest-lt}
+use Rattle.sums.proofs.SumLaws.{delta-refl, delta-diff}
+use Rattle.word.specs.Bit.{bit, hasBit, withoutBit, Lowest}
+use Rattle.word.proofs.BitLaws.{bit-cases, bit-zero, bit-lt, bit-clear-same, bit-clear-other, clear-below, ofBits-lt, bit-ofBits, ofBits-only}
+use Rattle.word.proofs.MaskLaws.{bit-and, bit-or, bit-not, bit-pow}
+use Rattle.sheet.specs.Layout.{size, rowAt, countAt, edgeAt}
+use Rattle.sheet.proofs.LayoutLaws.{length-redone, row-redone, count-redone, rest-redone, redone-ext}
+use Rattle.edit.specs.Edit.{namedAt, marked}
+use Rattle.edit.specs.Outcome.{editedRow}
+use Rattle.edit.specs.Internal.{Marked, rowsEdited}
+use Rattle.edit.proofs.NamedLaws.{marked-le}
+
+-- ---- a row with the bits of a mask set, or cleared
+
+pub mark-set : (inserts : Bool) (row mask : ℕ) → inserts ≡ true → Marked inserts row mask (bitOr row mask)
+mark-set inserts row mask e j l = rw e (bit-or row mask j ∙ ⊎-elim (λ z. rw z (omega arith)) (λ o. rw o (omega arith)) (bit-cases mask j))
+
+pub mark-cleared : (inserts : Bool) (row mask : ℕ) → mask < 2 ^ 64 → inserts ≡ false → Marked inserts row mask (bitAnd row ((2 ^ 64 - 1) - mask))
+mark-cleared inserts row mask h e j l =
+    let x : ℕ = bit ((2 ^ 64 - 1) - mask) j in
+    let c : x + bit mask j ≡ 1 = bit-not 64 mask j h l in
+    rw e
+    (bit-and row ((2 ^ 64 - 1) - mask) j
+    ∙ ⊎-elim
+    (λ (z : bit mask j ≡ 0). let o : x ≡ 1 = omega arith in rw (z, o) (omega arith))
+    (λ (o : bit mask j ≡ 1). let z : x ≡ 0 = omega arith in rw (o, z) (omega arith))
+    (bit-cases mask j))
+
+-- ---- the edges that are named
+
+has-zero : (j : ℕ) → hasBit 0 j ≡ false
+has-zero j = rw (bit-zero j)
+
+has-pow : (v j : ℕ) → hasBit (2 ^ v) j ≡ eqb j v
+has-pow v j =
+    ap (λ (x : ℕ). eqb x 1) (bit-pow v j)
+    ∙ elim (ℕ-discrete j v) [
+      | yes e ↦ rw (e, delta-refl v) (sym (eq-eqb v v refl))
+      | no d ↦ rw (delta-diff j v d) (sym (ne-eqb j v d))
+    ]
+
+-- with no successors
+named-none : (v a i j : ℕ) → namedAt v a 0 i j ≡ (hasBit a i && eqb j v)
+named-none v a i j = rw (has-zero j) (or-never (hasBit a i && eqb j v) (eqb i v))
+  where
+    or-never : (x y : Bool) → (x || y && false) ≡ x
+    or-never true y = refl
+    or-never false true = refl
+    or-never false false = refl
+
+-- the successors are those of v alone
+named-other : (v a b i j : ℕ) → (i ≡ v → ⊥) → namedAt v a b i j ≡ namedAt v a 0 i j
+named-other v a b i j d = rw (ne-eqb i v d)
+
+-- at v they are marked on top of the rest
+named-both : (inserts : Bool) (v a b j x : ℕ) → marked inserts (hasBit b j) (marked inserts (namedAt v a 0 v j) x) ≡ marked inserts (namedAt v a b v j) x
+named-both inserts v a b j x = rw (named-none v a v j, eq-eqb v v refl) (both (hasBit b j) (hasBit a v && eqb j v))
+  where
+    both : (p q : Bool) → marked inserts p (marked inserts q x) ≡ marked inserts (q || true && p) x
+    both true true = refl
+    both true false = refl
+    both false true = refl
+    both false false = refl
+
+-- ---- a row, bit by bit
+
+module _ (inserts : Bool) (s : List ℕ) (v a b i : ℕ) where
+  edited-le : (j : ℕ) → marked inserts (namedAt v a b i j) (edgeAt s i j) ≤ 1
+  edited-le j = marked-le inserts (namedAt v a b i j) (edgeAt s i j) (omega (arith, bit-lt (rowAt s i) j))
+
+  pub bit-edited : (j : ℕ) → j < 64 → bit (editedRow inserts s v a b i) j ≡ marked inserts (namedAt v a b i j) (edgeAt s i j)
+  unfolding editedRow
+  bit-edited j l = bit-ofBits _ edited-le j l
+
+  edited-only : (x : ℕ) → x < 2 ^ 64 → ((j : ℕ) → j < 64 → bit x j ≡ marked inserts (namedAt v a b i j) (edgeAt s i j)) → x ≡ editedRow inserts s v a b i
+  unfolding editedRow
+  edited-only x h e = ofBits-only x _ edited-le h e
+
+  pub edited-lt : editedRow inserts s v a b i < 2 ^ 64
+  unfolding editedRow
+  edited-lt = ofBits-lt _ edited-le
+
+-- without an edge named a row is left as it is
+pub edited-none : (inserts : Bool) (s : List ℕ) (v i : ℕ) → rowAt s i < 2 ^ 64 → rowAt s i ≡ editedRow inserts s v 0 0 i
+edited-none inserts s v i h = edited-only inserts s v 0 0 i (rowAt s i) h (λ j l. rw (named-none v 0 i j, has-zero i))
+
+-- two rows that the edits leave are the same if their bits are
+edited-same : (inserts : Bool) (s t : List ℕ) (v a b c d i : ℕ)
+    → ((j : ℕ) → marked inserts (namedAt v a b i j) (edgeAt s i j) ≡ marked inserts (namedAt v c d i j) (edgeAt t i j))
+    → editedRow inserts s v a b i ≡ editedRow inserts t v c d i
+edited-same inserts s t v a b c d i h =
+    edited-only inserts t v c d i _ (edited-lt inserts s v a b i) (λ j l. bit-edited inserts s v a b i j l ∙ h j)
+
+-- ---- the rows of a mask, by the lowest bit of what is left of it
+
+-- t is s with some rows of the mask done, so that those of rest done in t leave what those of the mask done in s do
+pub record Marking (inserts : Bool) (n : ℕ) (s : List ℕ) (v mask rest : ℕ) (t : List ℕ) : Type 0 where
+  pub long : length t ≡ length s
+  pub below : rest < 2 ^ n
+  pub small : (i : ℕ) → i < n → rowAt t i < 2 ^ 64
+  pub left : rowsEdited inserts n t v rest 0 ≡ rowsEdited inserts n s v mask 0
+
+module _ (inserts : Bool) (n : ℕ) (s : List ℕ) (v mask : ℕ) where
+  pub marking-start : mask < 2 ^ n → ((i : ℕ) → i < n → rowAt s i < 2 ^ 64) → Marking inserts n s v mask mask s
+  marking-start h q = record { long = refl; below = h; small = q; left = refl }
+
+  -- one row done: r is row i with the bit v marked
+  module _ (t : List ℕ) (rest i r : ℕ) (long : length s ≡ size n) (was : Marking inserts n s v mask rest t) (l : Lowest rest i)
+      (hr : r < 2 ^ 64) (m : Marked inserts (rowAt t i) (2 ^ v) r) where
+    hi : i < n
+    hi = lowest-lt n rest i l (was .below)
+
+    stored : rowAt (set t i r) i ≡ r
+    stored = getD-set-same t i r 0 (omega (arith, hi, was .long))
+
+    row : (k : ℕ) → k < n → editedRow inserts (set t i r) v (withoutBit rest i) 0 k ≡ editedRow inserts t v rest 0 k
+    row k hk =
+        elim (ℕ-discrete k i) [
+          | yes e ↦ rw e (edited-only inserts t v rest 0 i _ (edited-lt inserts (set t i r) v (withoutBit rest i) 0 i) here)
+          | no d ↦
+              edited-same inserts (set t i r) t v (withoutBit rest i) 0 rest 0 k
+              (λ j. rw (getD-set-other t i k r 0 d, bit-clear-other rest i k d))
+        ]
+      where
+        here : (j : ℕ) → j < 64 → bit (editedRow inserts (set t i r) v (withoutBit rest i) 0 i) j ≡ marked inserts (namedAt v rest 0 i j) (edgeAt t i j)
+        here j q =
+            bit-edited inserts (set t i r) v (withoutBit rest i) 0 i j q
+            ∙ rw (named-none v (withoutBit rest i) i j, named-none v rest i j, bit-clear-same rest i, l .set, stored, m j q, has-pow v j)
+
+    pub marking-more : (rest′ : ℕ) → rest′ ≡ withoutBit rest i → Marking inserts n s v mask rest′ (set t i r)
+    marking-more rest′ e =
+        rw e
+        record {
+          long = length-set t i r ∙ was .long;
+          below = clear-below n rest i (was .below);
+          small = λ k hk. elim (ℕ-discrete k i) [ yes q ↦ rw (q, stored) hr | no d ↦ rw (getD-set-other t i k r 0 d) (was .small k hk) ];
+          left = same ∙ was .left;
+        }
+      where
+        u : List ℕ
+        u = rowsEdited inserts n (set t i r) v (withoutBit rest i) 0
+
+        long′ : length (set t i r) ≡ size n
+        long′ = length-set t i r ∙ was .long ∙ long
+
+        same : u ≡ rowsEdited inserts n t v rest 0
+        same =
+            redone-ext n _ _ t u (length-redone n _ _ (set t i r) ∙ length-set t i r)
+            (λ k hk. row-redone n _ _ (set t i r) long′ k hk ∙ row k hk)
+            (λ k j hk hj. count-redone n _ _ (set t i r) long′ k j hk hj ∙ getD-set-other t i _ r 0 (omega (arith, hi)))
+            (λ k hk. rest-redone n _ _ (set t i r) k hk ∙ getD-set-other t i k r 0 (omega (arith, hi)))
+
+  -- with no row left
+  pub marking-done : (t : List ℕ) (rest : ℕ) → Marking inserts n s v mask rest t → rest ≡ 0 → t ≡ rowsEdited inserts n s v mask 0
+  marking-done t rest was e =
+      redone-ext n (editedRow inserts t v 0 0) (countAt n t) t t refl
+      (λ i hi. edited-none inserts t v i (was .small i hi))
+      (λ i j hi hj. refl)
+      (λ k hk. refl)
+      ∙ rw e at (was .left)
+
+-- ---- and the row of v on top
+
+pub rows-edited : (inserts : Bool) (n : ℕ) (s t : List ℕ) (v a b r : ℕ) → length s ≡ size n → v < n → t ≡ rowsEdited inserts n s v a 0
+    → r < 2 ^ 64 → Marked inserts (rowAt t v) b r → set t v r ≡ rowsEdited inserts n s v a b
+rows-edited inserts n s t v a b r long hv et hr m =
+    redone-ext n (editedRow inserts s v a b) (countAt n s) s (set t v r) (length-set t v r ∙ same)
+    row
+    (λ i j hi hj. getD-set-other t v _ r 0 (omega arith) ∙ ap (λ (l : List ℕ). countAt n l i j) et ∙ count-redone n _ _ s long i j hi hj)
+    (λ k hk. getD-set-other t v k r 0 (omega arith) ∙ ap (λ (l : List ℕ). getD l k 0) et ∙ rest-redone n _ _ s k hk)
+  where
+    same : length t ≡ length s
+    same = ap length et ∙ length-redone n _ _ s
+
+    was : (i : ℕ) → i < n → rowAt t i ≡ editedRow inserts s v a 0 i
+    was i hi = ap (λ (l : List ℕ). rowAt l i) et ∙ row-redone n _ _ s long i hi
+
+    on-top : (j : ℕ) → j < 64 → bit r j ≡ marked inserts (namedAt v a b v j) (edgeAt s v j)
+    on-top j l =
+        m j l
+        ∙ ap (λ (x : ℕ). marked inserts (hasBit b j) x) (ap (λ (x : ℕ). bit x j) (was v hv) ∙ bit-edited inserts s v a 0 v j l)
+        ∙ named-both inserts v a b j (edgeAt s v j)
+
+    row : (i : ℕ) → i < n → rowAt (set t v r) i ≡ editedRow inserts s v a b i
+    row i hi =
+        elim (ℕ-discrete i v) [
+          | yes e ↦ rw e (getD-set-same t v r 0 (omega (arith, same)) ∙ edited-only inserts s v a b v r hr on-top)
+          | no d ↦
+              getD-set-other t v i r 0 d
+              ∙ was i hi
+              ∙ edited-same inserts s s v a 0 a b i (λ j. ap (λ (x : Bool). marked inserts x (edgeAt s i j)) (sym (named-other v a b i j d)))
+        ]

@@ -1,0 +1,62 @@
+-- `edit::checks::some_meets` meets its contract: a search over the vertices of the mask `from`. Assumes nothing.
+use native.Mathlib.Omega.{arith}
+use borrow.Author.Tests.{eqb-true, eqb-false}
+use Rattle.sheet.proofs.TableLaws.{reflects-false}
+use Rattle.word.proofs.CountLaws.{lowest-cleared-lt}
+use Rattle.edit.specs.Internal.{Meets}
+use Rattle.edit.proofs.SearchLaws.{Searching, searching-start, searching-below, searching-found, searching-more, searching-done}
+use Rattle.edit.proofs.checks.some_meets.Statement.{statement}
+use Rattle.edit.proofs.checks.some_meets.Tie as tie
+
+abbrev Inv-loop : tie.InvT-loop
+Inv-loop n sheet from to rest₀ rest = Searching n from rest (Meets n sheet to)
+
+abbrev μ-loop : tie.MeasureT-loop
+μ-loop n sheet from to rest₀ rest = rest
+
+loop-holds : tie.Need-loop-holds Inv-loop μ-loop
+loop-holds c = searching-start _ _ _ (c .before .pre .1)
+
+lowest-bit-requires : tie.Need-lowest-bit-requires Inv-loop μ-loop
+lowest-bit-requires c κs = omega (arith, eqb-false)
+
+row-meets-requires : tie.Need-row-meets-requires Inv-loop μ-loop
+row-meets-requires c κs =
+    let l = c .before .before in
+    let p = l .before .before .pre in
+    (p .0, searching-below _ _ _ _ _ (l .loop .inv) (c .lowest-bit .ensures), p .2)
+
+returns : tie.Need-returns Inv-loop μ-loop
+returns c =
+    let l = c .before .before in
+    searching-found _ _ _ _ _ (l .before .before .loop .inv) (l .lowest-bit .ensures) (c .before .row-meets .ensures .holds (c .if1 .taken))
+
+clear-bit-requires : tie.Need-clear-bit-requires Inv-loop μ-loop
+clear-bit-requires c κs = omega arith
+
+loop-less : tie.Need-loop-less Inv-loop μ-loop
+loop-less c = lowest-cleared-lt _ _ _ (c .before .before .before .lowest-bit .ensures) (c .clear-bit .ensures)
+
+loop-again : tie.Need-loop-again Inv-loop μ-loop
+loop-again c =
+    let l = c .before .before .before in
+    let none = reflects-false (c .before .before .row-meets .ensures) .0 (c .before .if1 .left) in
+    searching-more _ _ _ _ _ (l .before .before .loop .inv) (l .lowest-bit .ensures) _ none (c .clear-bit .ensures)
+
+returns-2 : tie.Need-returns-2 Inv-loop μ-loop
+returns-2 c = searching-done _ _ _ _ (c .before .loop .inv) (omega (arith, eqb-true))
+
+pub some-meets-spec : {M : Type 1} → statement M
+some-meets-spec =
+    tie.close
+    (tie.spec
+    Inv-loop
+    μ-loop
+    loop-holds
+    lowest-bit-requires
+    row-meets-requires
+    returns
+    clear-bit-requires
+    loop-less
+    loop-again
+    returns-2)

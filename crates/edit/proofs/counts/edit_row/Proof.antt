@@ -1,0 +1,67 @@
+-- `edit::counts::edit_row` meets its contract: the products are added, or they are all 0. Assumes nothing.
+use native.Mathlib.Omega.{arith}
+use borrow.Author.Needs.{needs}
+use Rattle.edit.proofs.EditedCounts.{row-edited, row-left}
+use Rattle.edit.proofs.counts.edit_row.Statement.{statement}
+use Rattle.edit.proofs.counts.edit_row.Tie as tie
+
+row-base-requires : tie.Need-row-base-requires
+row-base-requires c κs = search needs
+
+add-x : tie.Need-add-x
+add-x c = search needs
+
+mul-x : tie.Need-mul-x
+mul-x c = search needs
+
+slice-read-x : tie.Need-slice-read-x
+slice-read-x c = search needs
+
+sum-from-requires : tie.Need-sum-from-requires
+sum-from-requires c κs = search needs
+
+signed-requires : tie.Need-signed-requires
+signed-requires c κs = search needs
+
+add-products-requires : tie.Need-add-products-requires
+add-products-requires c κs = search needs
+
+same-length : tie.Need-same-length
+same-length c = search needs
+
+returns : tie.Need-returns
+returns c =
+    let last = c .before .before in
+    let sign = last .before in
+    let sum = sign .before .before .before in
+    let base = sum .before .before .before in
+    let start = base .before .before in
+    row-edited (start .args .inserts) _ _ (start .pre .0) _ _ _ _ _ (base .row-base .ensures) (sum .sum-from .ensures) (start .args .t .now) (start .args .u .now) _ _
+    (sign .signed .ensures) (last .add-products .ensures)
+
+same-length-2 : tie.Need-same-length-2
+same-length-2 c = search needs
+
+returns-2 : tie.Need-returns-2
+returns-2 c =
+    let sum = c .before in
+    let base = sum .before .before .before in
+    let start = base .before .before in
+    row-left (start .args .inserts) _ _ (start .pre .0) _ _ _ _ _ (base .row-base .ensures) (sum .sum-from .ensures) (start .args .t .now) (start .args .u .now)
+    (λ k. omega (arith, base .before .slice-known .given k)) (c .if1 .left)
+
+pub edit-row-spec : {M : Type 1} → statement M
+edit-row-spec =
+    tie.close
+    (tie.spec
+    row-base-requires
+    add-x
+    mul-x
+    slice-read-x
+    sum-from-requires
+    signed-requires
+    add-products-requires
+    same-length
+    returns
+    same-length-2
+    returns-2)

@@ -1,0 +1,109 @@
+// The four edits of a sheet: one edge, or the edges at one vertex by two masks, inserted or deleted. They answer every n, every length,
+// all words and all other arguments. A refusal changes no word, and the value is the number of set bits in all rows afterwards.
+ghost use mathlib.Core.Path.{_≡_};
+ghost use Rattle.edit.specs.Edit.{edgeEdit, edgesEdit, insertEdge, deleteEdge, insertEdgesAt, deleteEdgesAt};
+ghost use Rattle.edit.specs.Outcome.{editAnswer, editAfter};
+ghost use Rattle.edit.specs.Internal.{Ready, effectAnswer, effectAfter};
+use sheet::Answer;
+
+mod checks;
+mod counts;
+mod rows;
+
+// The edit at v by masks, once 1 to 4 are past: refused by 5, 6, 8 or by 7, else made.
+fn edit_at(
+    inserts: bool,
+    n: usize,
+    sheet: &mut [u64],
+    v: usize,
+    predecessors: u64,
+    successors: u64,
+) -> Answer
+    requires { ⌜ Ready n (now sheet) v predecessors successors ⌝ }
+    ensures answer { λ r. ⌜ r ≡ effectAnswer inserts n (now (sheet .entry)) v predecessors successors ⌝ }
+    ensures words { λ r. ⌜ now (sheet .exit) ≡ effectAfter inserts n (now (sheet .entry)) v predecessors successors ⌝ }
+{
+    let number = checks::effect_number(inserts, n, sheet, v, predecessors, successors);
+    if number != 0 {
+        return Answer::refused(number);
+    }
+    counts::edit_counts(inserts, n, sheet, v, predecessors, successors);
+    rows::edit_rows(inserts, n, sheet, v, predecessors, successors);
+    Answer::accepted(sheet::rows::count_set_bits(n, sheet))
+}
+
+// One edge, inserted or deleted: the edit at its start with no predecessor and its end for the one successor.
+fn edit_edge(inserts: bool, n: usize, sheet: &mut [u64], from: usize, to: usize) -> Answer
+    ensures answer { λ r. ⌜ r ≡ editAnswer (edgeEdit inserts n from to) (now (sheet .entry)) ⌝ }
+    ensures words { λ r. ⌜ now (sheet .exit) ≡ editAfter (edgeEdit inserts n from to) (now (sheet .entry)) ⌝ }
+{
+    let number = sheet::checks::vertices_number(n, sheet.len(), from, to);
+    if number != 0 {
+        return Answer::refused(number);
+    }
+    edit_at(inserts, n, sheet, from, 0, 1 << to)
+}
+
+// The edges at v by masks, inserted or deleted.
+fn edit_edges_at(
+    inserts: bool,
+    n: usize,
+    sheet: &mut [u64],
+    v: usize,
+    predecessors: u64,
+    successors: u64,
+) -> Answer
+    ensures answer { λ r. ⌜ r ≡ editAnswer (edgesEdit inserts n v predecessors successors) (now (sheet .entry)) ⌝ }
+    ensures words { λ r. ⌜ now (sheet .exit) ≡ editAfter (edgesEdit inserts n v predecessors successors) (now (sheet .entry)) ⌝ }
+{
+    let number = checks::masks_number(n, sheet.len(), v, predecessors, successors);
+    if number != 0 {
+        return Answer::refused(number);
+    }
+    edit_at(inserts, n, sheet, v, predecessors, successors)
+}
+
+// The edge from one vertex to another, inserted. Refused by 1, 2, 3, 5, 6, 8.
+pub fn insert_edge(n: usize, sheet: &mut [u64], from: usize, to: usize) -> Answer
+    ensures answer { λ r. ⌜ r ≡ editAnswer (insertEdge n from to) (now (sheet .entry)) ⌝ }
+    ensures words { λ r. ⌜ now (sheet .exit) ≡ editAfter (insertEdge n from to) (now (sheet .entry)) ⌝ }
+{
+    edit_edge(true, n, sheet, from, to)
+}
+
+// The edge from one vertex to another, deleted. Refused by 1, 2, 3, 7.
+pub fn delete_edge(n: usize, sheet: &mut [u64], from: usize, to: usize) -> Answer
+    ensures answer { λ r. ⌜ r ≡ editAnswer (deleteEdge n from to) (now (sheet .entry)) ⌝ }
+    ensures words { λ r. ⌜ now (sheet .exit) ≡ editAfter (deleteEdge n from to) (now (sheet .entry)) ⌝ }
+{
+    edit_edge(false, n, sheet, from, to)
+}
+
+// The edges from the vertices of the mask predecessors to v and from v to those of the mask successors, inserted all at once.
+// Refused by 1, 2, 3, 4, 5, 6, 8.
+pub fn insert_edges_at(
+    n: usize,
+    sheet: &mut [u64],
+    v: usize,
+    predecessors: u64,
+    successors: u64,
+) -> Answer
+    ensures answer { λ r. ⌜ r ≡ editAnswer (insertEdgesAt n v predecessors successors) (now (sheet .entry)) ⌝ }
+    ensures words { λ r. ⌜ now (sheet .exit) ≡ editAfter (insertEdgesAt n v predecessors successors) (now (sheet .entry)) ⌝ }
+{
+    edit_edges_at(true, n, sheet, v, predecessors, successors)
+}
+
+// The same edges, deleted all at once. Refused by 1, 2, 3, 4, 7.
+pub fn delete_edges_at(
+    n: usize,
+    sheet: &mut [u64],
+    v: usize,
+    predecessors: u64,
+    successors: u64,
+) -> Answer
+    ensures answer { λ r. ⌜ r ≡ editAnswer (deleteEdgesAt n v predecessors successors) (now (sheet .entry)) ⌝ }
+    ensures words { λ r. ⌜ now (sheet .exit) ≡ editAfter (deleteEdgesAt n v predecessors successors) (now (sheet .entry)) ⌝ }
+{
+    edit_edges_at(false, n, sheet, v, predecessors, successors)
+}

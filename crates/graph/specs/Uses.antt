@@ -1,0 +1,12 @@
+-- Paths that go along one of the edges that a test names. Definitions only. Assumes nothing.
+use mathlib.Core.Path.{_≡_}
+use mathlib.Core.Logic.{_⊎_}
+use mathlib.Core.Bool.{Bool, true}
+use mathlib.Core.List.{List, [], _∷_}
+use Prim.Native.Nat.{ℕ}
+
+-- the test f names the edge from one entry of the list to the next
+abbrev pub Uses : (ℕ → ℕ → Bool) → List ℕ → Type 0
+Uses f [] = ⊥
+Uses f (x ∷ []) = ⊥
+Uses f (x ∷ y ∷ l) = (f x y ≡ true) ⊎ Uses f (y ∷ l)

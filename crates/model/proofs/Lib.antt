@@ -1,0 +1,3 @@
+pub mod RunLaws
+pub mod WholeLists
+pub mod Examples

@@ -1,0 +1,23 @@
+-- `sheet::checks::vertices_number` meets its contract: each way out is a law of ShapeLaws. Assumes nothing.
+use borrow.Author.Needs.{needs}
+use Rattle.sheet.proofs.ShapeLaws.{vertices-stops, vertices-from, vertices-to, vertices-good}
+use Rattle.sheet.proofs.checks.vertices_number.Statement.{statement}
+use Rattle.sheet.proofs.checks.vertices_number.Tie as tie
+
+returns : tie.Need-returns
+returns c = search vertices-stops
+
+returns-2 : tie.Need-returns-2
+returns-2 c = search vertices-from
+
+returns-3 : tie.Need-returns-3
+returns-3 c = search vertices-to
+
+returns-4 : tie.Need-returns-4
+returns-4 c = search vertices-good
+
+shape-number-requires : tie.Need-shape-number-requires
+shape-number-requires c κs = search needs
+
+pub vertices-number-spec : {M : Type 1} → statement M
+vertices-number-spec = tie.close (tie.spec shape-number-requires returns returns-2 returns-3 returns-4)
