@@ -5,9 +5,11 @@
  * edge runs from i to j. Word n + i * n + j is the count from i to j. A sheet is valid if no row has a bit at n or above, there
  * is no cycle, and each count is the number of paths; a vertex alone is one path, from it to itself.
  *
- * Every call answers for every n, every length and all words, and ends. A refused call changes no word. The caller lends `sheet`,
- * `words` words aligned as uint64_t, and nobody else writes them during the call; if `words` is 0 it may be NULL. No call keeps
- * anything between calls, so calls on different sheets, and calls that only read one sheet, may run at the same time.
+ * Every call answers for every n, every length, all words and all bytes, and ends. A refused call changes no word and no byte.
+ * The caller lends `sheet`, `words` words aligned as uint64_t, and nobody else writes them during the call; if `words` is 0 it
+ * may be NULL. A path is lent as `path`, `path_bytes` bytes apart from the sheet, in the same way: one byte a vertex, from the
+ * first byte on; if `path_bytes` is 0 it may be NULL. No call keeps anything between calls, so calls on different sheets, and
+ * calls that only read one sheet, may run at the same time, each with a path of its own to write.
  *
  * Link with liblugloquat.a, which is for x86-64 and its System V calling convention. It needs memcpy and memset, and nothing else.
  */
@@ -109,6 +111,41 @@ lugloquat_answer lugloquat_delete_edges_at(size_t n, uint64_t *sheet, size_t wor
  * is n or more). value: the count.
  */
 lugloquat_answer lugloquat_path_count(size_t n, const uint64_t *sheet, size_t words, size_t from, size_t to);
+
+/*
+ * Whether one vertex leads to another without the edge from `edge_from` to `edge_to`, which has to be there.
+ * Refused by 1, 2, 3, 7. value: 1 or 0.
+ *
+ * The value is 1 exactly if count(from, edge_from) * count(edge_to, to), modulo 2 to the 64, differs from count(from, to). On a
+ * valid sheet that is so exactly if some path from the one to the other does not use the edge; of the paths of any other nothing
+ * is claimed.
+ */
+lugloquat_answer lugloquat_reaches_without(size_t n, const uint64_t *sheet, size_t words, size_t from, size_t to, size_t edge_from,
+                                           size_t edge_to);
+
+/*
+ * Finds path number k, from 0 up, from one vertex to another, and writes its vertices to the first bytes of `path`; the rest of
+ * the bytes stay. Refused by 1, 2, 3, 10, 11, 9. value: the number of vertices written.
+ *
+ * 10 says that `path_bytes` is under n, however short the path; 11 that k is not below count(from, to). The path is then walked:
+ * at a vertex that is not `to`, its edges are tried by ascending far vertex b below n; if k is below count(b, to) the walk goes
+ * to b, else that count is taken off k. 9 says that no edge fits, that n vertices are there without arriving, or that k is not 0
+ * on arriving. On a valid sheet the paths from the one to the other are numbered in ascending order, by the vertex at the first
+ * place where they differ, and 9 is never given. On any other the walk may come to a vertex again, and of paths nothing is
+ * claimed.
+ */
+lugloquat_answer lugloquat_unrank(size_t n, const uint64_t *sheet, size_t words, size_t from, size_t to, uint64_t k, uint8_t *path,
+                                  size_t path_bytes);
+
+/*
+ * The number of a path: `path_bytes` is the number of its vertices. Refused by 1, 2, 3, 12. value: the number.
+ *
+ * 3 says that any byte is n or more, however many there are; 12 that there are no vertices, more than n, or two neighbours
+ * without an edge. A vertex that is there twice is not refused. The value is the sum, modulo 2 to the 64, of count(b, last) for
+ * each step of the path from x to y and each b below y with an edge from x, where `last` is the path's last vertex. On a valid
+ * sheet that is the number by which lugloquat_unrank finds the path; of the paths of any other nothing is claimed.
+ */
+lugloquat_answer lugloquat_rank(size_t n, const uint64_t *sheet, size_t words, const uint8_t *path, size_t path_bytes);
 
 /*
  * Works out every count afresh from the rows, which stay. Refused by 1, 2, 4, 8 (an edge from a vertex to itself is a cycle).

@@ -32,7 +32,27 @@ static int edited(void) {
            is(lugloquat_delete_edges_at(2, sheet, 6, 0, 4, 0), LUGLOQUAT_REFUSED_STRAY_BIT, 0);
 }
 
-/* A sheet of no words may be NULL. */
+/* Three vertices, and the edges 0 to 1, 1 to 2 and 0 to 2: two paths from 0 to 2, and a byte that is not theirs. */
+static int asked(void) {
+    uint64_t sheet[LUGLOQUAT_WORD_COUNT(3)];
+    uint8_t path[4] = {7, 7, 7, 7};
+    return is(lugloquat_empty(3, sheet, 12), LUGLOQUAT_ACCEPTED, 0) &&
+           is(lugloquat_insert_edges_at(3, sheet, 12, 0, 0, 6), LUGLOQUAT_ACCEPTED, 2) &&
+           is(lugloquat_reaches_without(3, sheet, 12, 0, 2, 0, 2), LUGLOQUAT_ACCEPTED, 0) &&
+           is(lugloquat_insert_edge(3, sheet, 12, 1, 2), LUGLOQUAT_ACCEPTED, 3) &&
+           is(lugloquat_reaches_without(3, sheet, 12, 0, 2, 0, 2), LUGLOQUAT_ACCEPTED, 1) &&
+           is(lugloquat_reaches_without(3, sheet, 12, 0, 2, 2, 1), LUGLOQUAT_REFUSED_ABSENT, 0) &&
+           is(lugloquat_unrank(3, sheet, 12, 0, 2, 2, path, 3), LUGLOQUAT_REFUSED_NO_SUCH_PATH, 0) &&
+           is(lugloquat_unrank(3, sheet, 12, 0, 2, 0, path, 2), LUGLOQUAT_REFUSED_BUFFER, 0) && path[0] == 7 &&
+           is(lugloquat_unrank(3, sheet, 12, 0, 2, 1, path, 4), LUGLOQUAT_ACCEPTED, 2) && path[0] == 0 && path[1] == 2 &&
+           path[2] == 7 && is(lugloquat_rank(3, sheet, 12, path, 2), LUGLOQUAT_ACCEPTED, 1) &&
+           is(lugloquat_unrank(3, sheet, 12, 0, 2, 0, path, 4), LUGLOQUAT_ACCEPTED, 3) && path[1] == 1 && path[2] == 2 &&
+           is(lugloquat_rank(3, sheet, 12, path, 3), LUGLOQUAT_ACCEPTED, 0) &&
+           is(lugloquat_rank(3, sheet, 12, path, 4), LUGLOQUAT_REFUSED_VERTEX, 0) &&
+           is(lugloquat_rank(3, sheet, 12, path, 0), LUGLOQUAT_REFUSED_NO_PATH, 0);
+}
+
+/* A sheet of no words may be NULL, and so may a path of no bytes. */
 static int refused(void) {
     return is(lugloquat_empty(0, NULL, 0), LUGLOQUAT_REFUSED_VERTICES, 0) &&
            is(lugloquat_insert_edge(65, NULL, 0, 0, 0), LUGLOQUAT_REFUSED_VERTICES, 0) &&
@@ -40,10 +60,13 @@ static int refused(void) {
            is(lugloquat_insert_edges_at(0, NULL, 0, 0, 0, 0), LUGLOQUAT_REFUSED_VERTICES, 0) &&
            is(lugloquat_delete_edges_at(64, NULL, 0, 0, 0, 0), LUGLOQUAT_REFUSED_LENGTH, 0) &&
            is(lugloquat_path_count(65, NULL, 0, 0, 0), LUGLOQUAT_REFUSED_VERTICES, 0) &&
+           is(lugloquat_reaches_without(2, NULL, 0, 0, 0, 0, 0), LUGLOQUAT_REFUSED_LENGTH, 0) &&
+           is(lugloquat_unrank(65, NULL, 0, 0, 0, 0, NULL, 0), LUGLOQUAT_REFUSED_VERTICES, 0) &&
+           is(lugloquat_rank(2, NULL, 0, NULL, 0), LUGLOQUAT_REFUSED_LENGTH, 0) &&
            is(lugloquat_recount(1, NULL, 0), LUGLOQUAT_REFUSED_LENGTH, 0) &&
            is(lugloquat_validate(64, NULL, 0), LUGLOQUAT_REFUSED_LENGTH, 0);
 }
 
 int main(void) {
-    return !(accepted() && edited() && refused());
+    return !(accepted() && edited() && asked() && refused());
 }

@@ -5,11 +5,12 @@
 //! i to j. Word n + i × n + j is the count from i to j. A sheet is valid if no row has a bit at n or above, there is no cycle, and
 //! each count is the number of paths; a vertex alone is one path, from it to itself.
 //!
-//! Every call answers for every n, every length and all words. `Ok` has the call's value; `Err` says why it was refused, and then no
-//! word has changed.
+//! Every call answers for every n, every length, all words and all bytes. `Ok` has the call's value; `Err` says why it was refused,
+//! and then no word and no byte has changed.
 //!
 //! ```
 //! use lugloquat::{delete_edges_at, empty, insert_edge, insert_edges_at, path_count, validate, word_count, Reason};
+//! use lugloquat::{rank, reaches_without, unrank};
 //!
 //! let mut sheet = [0; word_count(5)];
 //! empty(5, &mut sheet)?;
@@ -17,6 +18,11 @@
 //!     insert_edge(5, &mut sheet, from, to)?;
 //! }
 //! assert_eq!(path_count(5, &sheet, 0, 3), Ok(2));
+//! let mut path = [0; 5];
+//! assert_eq!(unrank(5, &sheet, 0, 3, 1, &mut path), Ok(3));
+//! assert_eq!(path[..3], [0, 2, 3]);
+//! assert_eq!(rank(5, &sheet, &path[..3]), Ok(1));
+//! assert_eq!(reaches_without(5, &sheet, 0, 3, 0, 1), Ok(1));
 //! assert_eq!(insert_edge(5, &mut sheet, 3, 0).unwrap_err().reason, Reason::Cycle);
 //! assert_eq!(insert_edges_at(5, &mut sheet, 4, 1 << 1, 1 << 3), Ok(6));
 //! assert_eq!(path_count(5, &sheet, 0, 3), Ok(3));
@@ -110,6 +116,49 @@ pub fn delete_edges_at(n: usize, sheet: &mut [u64], v: usize, predecessors: u64,
 pub fn path_count(n: usize, sheet: &[u64], from: usize, to: usize) -> Result<u64, Refusal> {
     // SAFETY: the words are those of the slice, and are only read.
     unsafe { sys::lugloquat_path_count(n, sheet.as_ptr(), sheet.len(), from, to) }.result()
+}
+
+/// Whether one vertex leads to another without the edge from `edge_from` to `edge_to`, which is there: the value is 1 exactly if
+/// count(from, edge_from) × count(edge_to, to), modulo 2 to the 64, differs from count(from, to), else 0. On a valid sheet that is
+/// 1 exactly if some path from the one to the other does not use the edge; of the paths of any other nothing is claimed.
+///
+/// Refused as [`Reason::Vertices`], [`Reason::Length`], [`Reason::Vertex`], [`Reason::Absent`], in this order.
+pub fn reaches_without(
+    n: usize,
+    sheet: &[u64],
+    from: usize,
+    to: usize,
+    edge_from: usize,
+    edge_to: usize,
+) -> Result<u64, Refusal> {
+    // SAFETY: the words are those of the slice, and are only read.
+    unsafe { sys::lugloquat_reaches_without(n, sheet.as_ptr(), sheet.len(), from, to, edge_from, edge_to) }.result()
+}
+
+/// Writes path number k, from 0 up, of those from one vertex to another, a byte a vertex, to the first bytes of `path`; the others
+/// stay. The value is the number of vertices written. On a valid sheet the paths are numbered in ascending order, by the vertex at
+/// the first place where they differ, and every number below the count has its path.
+///
+/// On any sheet the path is walked by the counts: at a vertex that is not `to`, the edges are tried by ascending far vertex b below
+/// n; if k is below count(b, to) the walk goes to b, else that count is taken off k. On a sheet that is not valid it may come to a
+/// vertex again, and may go astray: no edge fits, n vertices are reached and the last is not `to`, or k is not 0 on arriving.
+///
+/// Refused as [`Reason::Vertices`], [`Reason::Length`], [`Reason::Vertex`], [`Reason::Buffer`] (`path` has fewer than n bytes),
+/// [`Reason::NoSuchPath`] (k is not below the count), [`Reason::NotValid`] (the walk goes astray), in this order.
+pub fn unrank(n: usize, sheet: &[u64], from: usize, to: usize, k: u64, path: &mut [u8]) -> Result<u64, Refusal> {
+    // SAFETY: the words and the bytes are those of the slices; the words are only read, the bytes lent for the call alone.
+    unsafe { sys::lugloquat_unrank(n, sheet.as_ptr(), sheet.len(), from, to, k, path.as_mut_ptr(), path.len()) }.result()
+}
+
+/// The number of a path, given a byte a vertex: the sum, modulo 2 to the 64, of count(b, last) over the steps of the path, each
+/// from x to y, and over every b below y with an edge from x to b, where `last` is the path's last vertex. On a valid sheet that is
+/// the number by which [`unrank`] finds it. On any other the vertices may repeat, and of its paths nothing is claimed.
+///
+/// Refused as [`Reason::Vertices`], [`Reason::Length`], [`Reason::Vertex`] (any byte is n or more, however many there are),
+/// [`Reason::NoPath`] (there are no vertices, more than n, or two neighbours without an edge), in this order.
+pub fn rank(n: usize, sheet: &[u64], path: &[u8]) -> Result<u64, Refusal> {
+    // SAFETY: the words and the bytes are those of the slices, and are only read.
+    unsafe { sys::lugloquat_rank(n, sheet.as_ptr(), sheet.len(), path.as_ptr(), path.len()) }.result()
 }
 
 /// Works out every count afresh from the rows, which stay. The value is the number of set bits in all rows.

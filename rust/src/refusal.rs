@@ -2,7 +2,7 @@
 
 use core::{error::Error, fmt};
 
-/// A refusal. The refused call has changed no word of any buffer.
+/// A refusal. The refused call has changed no word and no byte of any buffer.
 #[derive(Clone, Copy, Debug, PartialEq, Eq, Hash)]
 pub struct Refusal {
     pub reason: Reason,

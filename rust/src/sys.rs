@@ -47,6 +47,26 @@ extern "C" {
         successors: u64,
     ) -> Answer;
     pub fn lugloquat_path_count(n: usize, sheet: *const u64, words: usize, from: usize, to: usize) -> Answer;
+    pub fn lugloquat_reaches_without(
+        n: usize,
+        sheet: *const u64,
+        words: usize,
+        from: usize,
+        to: usize,
+        edge_from: usize,
+        edge_to: usize,
+    ) -> Answer;
+    pub fn lugloquat_unrank(
+        n: usize,
+        sheet: *const u64,
+        words: usize,
+        from: usize,
+        to: usize,
+        k: u64,
+        path: *mut u8,
+        path_bytes: usize,
+    ) -> Answer;
+    pub fn lugloquat_rank(n: usize, sheet: *const u64, words: usize, path: *const u8, path_bytes: usize) -> Answer;
     pub fn lugloquat_recount(n: usize, sheet: *mut u64, words: usize) -> Answer;
     pub fn lugloquat_validate(n: usize, sheet: *const u64, words: usize) -> Answer;
 }

@@ -3,6 +3,9 @@
 // The words of a sheet of 65 vertices, were there one: no case lends a longer buffer.
 pub const LONGEST: usize = 4290;
 
+// A byte that is no vertex of any sheet: what a buffer of bytes holds before a case writes to it.
+pub const NO_VERTEX: u8 = 170;
+
 // Puts the words of `from` at the start of `to`, where they fit.
 pub fn copy(from: &[u64], to: &mut [u64]) {
     if to.len() < from.len() {

@@ -1,70 +1,63 @@
-// The public calls of the crates sheet and edit, each with a line of what it answers. A call that may write has a second line, which says
-// whether it left every word as it was: 1 or 0.
+// The public calls of the crates sheet, recount, edit and query, each with a line of what it answers. A call that may write has a
+// second line: whether it left every word as it was, 1 or 0; or all bytes of the buffer for a path.
 use crate::buffer;
 use crate::lines;
 
-// A line that says whether the buffer has the words that were kept before a call.
-fn unchanged(kept: &[u64], words: &[u64]) {
-    lines::number(b"unchanged ", buffer::begins(kept, words) as u64);
+// A line that says whether two buffers have the same words: 1 or 0.
+pub fn same(label: &[u8], kept: &[u64], words: &[u64]) {
+    lines::number(label, buffer::begins(kept, words) as u64);
     lines::end();
-}
-
-// A call and its two vertices.
-fn edge(label: &[u8], from: usize, to: usize) {
-    lines::number(label, from as u64);
-    lines::number(b" ", to as u64);
-}
-
-// A call, its vertex and its masks.
-fn masks(label: &[u8], v: usize, predecessors: u64, successors: u64) {
-    lines::number(label, v as u64);
-    lines::number(b" ", predecessors);
-    lines::number(b" ", successors);
 }
 
 // The empty sheet.
 pub fn empty(n: usize, words: &mut [u64]) {
     let kept = buffer::keep(words);
-    lines::answer(b"empty", sheet::empty(n, words));
-    unchanged(&kept, words);
+    lines::answer(b"empty", &[], sheet::empty(n, words));
+    same(b"unchanged ", &kept, words);
 }
 
 // One edge inserted.
 pub fn insert_edge(n: usize, words: &mut [u64], from: usize, to: usize) {
     let kept = buffer::keep(words);
-    edge(b"insert_edge ", from, to);
-    lines::answer(b"", edit::insert_edge(n, words, from, to));
-    unchanged(&kept, words);
+    lines::answer(
+        b"insert_edge",
+        &[from as u64, to as u64],
+        edit::insert_edge(n, words, from, to),
+    );
+    same(b"unchanged ", &kept, words);
 }
 
 // One edge deleted.
 pub fn delete_edge(n: usize, words: &mut [u64], from: usize, to: usize) {
     let kept = buffer::keep(words);
-    edge(b"delete_edge ", from, to);
-    lines::answer(b"", edit::delete_edge(n, words, from, to));
-    unchanged(&kept, words);
+    lines::answer(
+        b"delete_edge",
+        &[from as u64, to as u64],
+        edit::delete_edge(n, words, from, to),
+    );
+    same(b"unchanged ", &kept, words);
 }
 
 // The edges at v by two masks inserted.
 pub fn insert_edges_at(n: usize, words: &mut [u64], v: usize, predecessors: u64, successors: u64) {
     let kept = buffer::keep(words);
-    masks(b"insert_edges_at ", v, predecessors, successors);
     lines::answer(
-        b"",
+        b"insert_edges_at",
+        &[v as u64, predecessors, successors],
         edit::insert_edges_at(n, words, v, predecessors, successors),
     );
-    unchanged(&kept, words);
+    same(b"unchanged ", &kept, words);
 }
 
 // The edges at v by two masks deleted.
 pub fn delete_edges_at(n: usize, words: &mut [u64], v: usize, predecessors: u64, successors: u64) {
     let kept = buffer::keep(words);
-    masks(b"delete_edges_at ", v, predecessors, successors);
     lines::answer(
-        b"",
+        b"delete_edges_at",
+        &[v as u64, predecessors, successors],
         edit::delete_edges_at(n, words, v, predecessors, successors),
     );
-    unchanged(&kept, words);
+    same(b"unchanged ", &kept, words);
 }
 
 // Each vertex in turn, with an edge to it from every lower one.
@@ -80,20 +73,23 @@ pub fn join_upward(n: usize, words: &mut [u64]) {
 
 // The count from i to j.
 pub fn path_count(n: usize, words: &[u64], i: usize, j: usize) {
-    edge(b"path_count ", i, j);
-    lines::answer(b"", sheet::path_count(n, words, i, j));
+    lines::answer(
+        b"path_count",
+        &[i as u64, j as u64],
+        sheet::path_count(n, words, i, j),
+    );
 }
 
 // The counts worked out afresh.
 pub fn recount(n: usize, words: &mut [u64]) {
     let kept = buffer::keep(words);
-    lines::answer(b"recount", sheet::recount(n, words));
-    unchanged(&kept, words);
+    lines::answer(b"recount", &[], recount::recount(n, words));
+    same(b"unchanged ", &kept, words);
 }
 
 // Whether the sheet is valid.
 pub fn validate(n: usize, words: &[u64]) {
-    lines::answer(b"validate", sheet::validate(n, words));
+    lines::answer(b"validate", &[], recount::validate(n, words));
 }
 
 // The counts from vertex 0 to each vertex.
@@ -105,11 +101,40 @@ pub fn counts_from_0(n: usize, words: &[u64]) {
     }
 }
 
+// Whether there is a path from i to j without the edge from u to v.
+pub fn reaches_without(n: usize, words: &[u64], i: usize, j: usize, u: usize, v: usize) {
+    lines::answer(
+        b"reaches_without",
+        &[i as u64, j as u64, u as u64, v as u64],
+        query::reaches_without(n, words, i, j, u, v),
+    );
+}
+
+// The path from i to j by the number k.
+pub fn unrank(n: usize, words: &[u64], i: usize, j: usize, k: u64, path: &mut [u8]) {
+    lines::answer(
+        b"unrank",
+        &[i as u64, j as u64, k],
+        query::unrank(n, words, i, j, k, path),
+    );
+    lines::bytes(b"bytes", path);
+    lines::end();
+}
+
+// The number of a path.
+pub fn rank(n: usize, words: &[u64], path: &[u8]) {
+    lines::bytes(b"rank", path);
+    lines::answer(b"", &[], query::rank(n, words, path));
+}
+
 // Every call, on one buffer, under a line with the sizes.
 pub fn each(n: usize, words: &mut [u64]) {
     lines::number(b"vertices ", n as u64);
     lines::number(b" words ", words.len() as u64);
     lines::end();
+    reaches_without(n, words, 0, 1, 0, 1);
+    unrank(n, words, 0, 1, 0, &mut [buffer::NO_VERTEX; 2]);
+    rank(n, words, &[buffer::NO_VERTEX; 2]);
     empty(n, words);
     insert_edge(n, words, 0, 1);
     delete_edge(n, words, 0, 1);

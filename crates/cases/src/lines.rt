@@ -1,4 +1,4 @@
-// What the program prints: a heading, an answer, a number, words. A line feed ends each line, and numbers are decimal.
+// What the program prints: a heading, an answer, a number, words, bytes. A line feed ends each line, and numbers are decimal.
 use sheet::Answer;
 
 // Some text, where it stands.
@@ -23,22 +23,31 @@ pub fn number(label: &[u8], n: u64) {
     io::print_decimal(libc::STDOUT_FILENO, n);
 }
 
-// A line with what a call answers, after a label.
-pub fn answer(label: &[u8], a: Answer) {
-    text(label);
+// A line with a call, its numbers and what it answers.
+pub fn answer(label: &[u8], numbers: &[u64], a: Answer) {
+    words(label, numbers);
     number(b" number ", a.number);
     number(b" place ", a.place);
     number(b" value ", a.value);
     end();
 }
 
-// A line with all words of a buffer.
-pub fn words(buffer: &[u64]) {
-    text(b"words");
+// A label and some words, where they stand.
+pub fn words(label: &[u8], buffer: &[u64]) {
+    text(label);
     let mut k = 0;
     while k < buffer.len() {
         number(b" ", buffer[k]);
         k += 1;
     }
-    end();
+}
+
+// A label and some bytes, where they stand.
+pub fn bytes(label: &[u8], buffer: &[u8]) {
+    text(label);
+    let mut k = 0;
+    while k < buffer.len() {
+        number(b" ", buffer[k] as u64);
+        k += 1;
+    }
 }

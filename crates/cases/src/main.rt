@@ -1,6 +1,6 @@
-// Runs document 01's cases of the empty sheet, the edits, the counts, the recount and the validation, through the public calls of
-// the crates sheet and edit, and prints what the calls answer: a heading for each case, then a line for each call. The program
-// knows no answer; the file stdout beside it does.
+// Runs document 01's cases of the empty sheet, the edits, the counts, the recount, the validation and the three questions about
+// paths, through the public calls of the crates sheet, recount, edit and query, and prints what the calls answer: a heading for each
+// case, then a line for each call. The program knows no answer; the file stdout beside it does.
 mod buffer;
 mod calls;
 mod lines;
@@ -29,7 +29,7 @@ fn wrong_sizes() {
     calls::each(5, &mut many);
 }
 
-// The smallest sheet, emptied over garbage.
+// The smallest sheet, emptied over garbage, and its only path.
 fn one_vertex() {
     lines::heading(b"one vertex");
     let mut words = [GARBAGE; 2];
@@ -39,8 +39,17 @@ fn one_vertex() {
     calls::path_count(1, &words, 1, 0);
     calls::path_count(1, &words, FAR_TOO_MANY, 0);
     calls::validate(1, &words);
-    lines::words(&words);
+    lines::words(b"words", &words);
+    lines::end();
     calls::insert_edge(1, &mut words, 0, 0);
+    let sheet: &[u64] = &words;
+    calls::reaches_without(1, sheet, 0, 0, 0, 0);
+    let path: &mut [u8] = &mut [buffer::NO_VERTEX; 1];
+    calls::unrank(1, sheet, 0, 0, 1, path);
+    calls::unrank(1, sheet, 0, 0, 0, path);
+    calls::rank(1, sheet, path);
+    calls::rank(1, sheet, &[]);
+    calls::rank(1, sheet, &[0, 0]);
 }
 
 // The diamond's rows, 0 to 1, 0 to 2, 1 to 3 and 2 to 3, over garbage counts; recounted twice.
@@ -78,12 +87,6 @@ fn edits() -> [u64; 30] {
     words
 }
 
-// A line that says whether two sheets of five vertices have the same words.
-fn same(left: [u64; 30], right: [u64; 30]) {
-    lines::number(b"same words ", buffer::begins(&left, &right) as u64);
-    lines::end();
-}
-
 // Edits of the diamond that are refused, by each number that an edit has, the first condition before the next.
 fn refused_edits(mut words: [u64; 30]) {
     lines::heading(b"diamond, refused edits");
@@ -107,13 +110,106 @@ fn damaged_edits() {
     lines::heading(b"edits of sheets that are not valid");
     let mut looped = [1, 5];
     calls::delete_edges_at(1, &mut looped, 0, 1, 1);
-    lines::words(&looped);
+    lines::words(b"words", &looped);
+    lines::end();
     let mut large = [0, 0, u64::MAX, u64::MAX, 0, 2];
     calls::insert_edge(2, &mut large, 0, 1);
-    lines::words(&large);
+    lines::words(b"words", &large);
+    lines::end();
     let mut stray = [0b100, 0, 1, 0, 0, 1];
     calls::insert_edge(2, &mut stray, 0, 1);
-    lines::words(&stray);
+    lines::words(b"words", &stray);
+    lines::end();
+}
+
+// The paths of the diamond: into buffers that are longer than a path needs and exactly long, and by their numbers; and vertices that
+// are reached without an edge or not.
+fn questions(words: &[u64]) {
+    lines::heading(b"diamond, paths");
+    let long: &mut [u8] = &mut [buffer::NO_VERTEX; 7];
+    calls::unrank(5, words, 0, 3, 0, long);
+    calls::unrank(5, words, 4, 4, 0, long);
+    let mut exact = [buffer::NO_VERTEX; 5];
+    calls::unrank(5, words, 0, 3, 1, &mut exact);
+    calls::rank(5, words, &[0, 1, 3]);
+    calls::rank(5, words, &[0, 2, 3]);
+    calls::rank(5, words, &[4]);
+    calls::reaches_without(5, words, 0, 3, 0, 1);
+    calls::reaches_without(5, words, 0, 1, 0, 1);
+    calls::reaches_without(5, words, 4, 0, 0, 1);
+    calls::reaches_without(5, words, 0, 0, 0, 1);
+}
+
+// Questions of the diamond that are refused, by each number that a question has, the first condition before the next; and a path
+// without the edge from 0 to 2 where only 0 to 1 and 1 to 2 are edges.
+fn refused_questions(words: &[u64]) {
+    lines::heading(b"diamond, refused questions");
+    let short: &mut [u8] = &mut [buffer::NO_VERTEX; 4];
+    calls::unrank(5, words, 5, 0, 0, short);
+    calls::unrank(5, words, 0, FAR_TOO_MANY, 0, short);
+    calls::unrank(5, words, 0, 3, 0, short);
+    calls::unrank(5, words, 4, 0, 0, short);
+    let exact: &mut [u8] = &mut [buffer::NO_VERTEX; 5];
+    calls::unrank(5, words, 4, 0, 0, exact);
+    calls::unrank(5, words, 0, 3, 2, exact);
+    calls::unrank(5, words, 0, 3, u64::MAX, exact);
+    calls::rank(5, words, &[0, 3, 0, 3, 0, 3, 5]);
+    calls::rank(5, words, &[]);
+    calls::rank(5, words, &[0, 1, 3, 0, 1, 3]);
+    calls::rank(5, words, &[0, 3]);
+    calls::rank(5, words, &[3, 1]);
+    calls::reaches_without(5, words, FAR_TOO_MANY, 3, 0, 1);
+    calls::reaches_without(5, words, 0, 5, 1, 0);
+    calls::reaches_without(5, words, 0, 3, 5, 1);
+    calls::reaches_without(5, words, 0, 3, 0, 5);
+    calls::reaches_without(5, words, 0, 3, 1, 0);
+    calls::reaches_without(5, words, 0, 3, 2, 2);
+    let way = [0b010, 0b100, 0, 1, 1, 1, 0, 1, 1, 0, 0, 1];
+    calls::reaches_without(3, &way, 0, 2, 0, 2);
+}
+
+// Walks over sheets that are not valid. Four are refused late and leave the buffer as it was: no edge fits, the number is not 0 at
+// the end, an edge from 1 to itself makes the walk one vertex too long, a stray bit is no edge. Where a walk starts at its end no
+// edge is tried.
+fn damaged_walks() {
+    lines::heading(b"paths in sheets that are not valid");
+    let path: &mut [u8] = &mut [buffer::NO_VERTEX; 4];
+    let short = [0b010, 0b100, 0, 1, 1, 2, 0, 1, 2, 0, 0, 1];
+    calls::unrank(3, &short, 0, 2, 1, path);
+    let double = [0b010, 0b100, 0, 1, 1, 2, 0, 1, 2, 0, 0, 2];
+    calls::unrank(3, &double, 0, 2, 1, path);
+    let looped = [0b100, 0b011, 0, 1, 0, 1, 1, 1, 2, 0, 0, 1];
+    calls::unrank(3, &looped, 1, 2, 1, path);
+    let stray = [0b010, 0b1000, 0, 1, 1, 2, 0, 1, 2, 0, 0, 1];
+    calls::unrank(3, &stray, 0, 2, 0, path);
+    calls::unrank(1, &[1, 0], 0, 0, 0, path);
+    calls::unrank(1, &[1, 5], 0, 0, 3, path);
+    calls::unrank(1, &[1, 5], 0, 0, 0, path);
+}
+
+// Other questions of sheets that are not valid. With the diamond's counts and an edge from 2 to 0 instead of 3, a walk comes by 0
+// again and arrives as the fifth vertex of five. A sum of counts wraps, on a path that stays at its end. A product of counts wraps to the
+// count, or to another number. An edge runs from a vertex to itself.
+fn damaged_questions(mut words: [u64; 30]) {
+    lines::heading(b"a vertex twice on a path");
+    buffer::copy(&[0b00110, 0b01000, 0b00001], &mut words);
+    let sheet: &[u64] = &words;
+    calls::unrank(5, sheet, 0, 3, 1, &mut [buffer::NO_VERTEX; 6]);
+    calls::rank(5, sheet, &[0, 2, 0, 1, 3]);
+    calls::rank(5, sheet, &[0, 2, 0, 2, 0, 1]);
+    lines::heading(b"sums and products that wrap");
+    let looped: &[u64] = &[0, 0, 0b111, 0, 0, u64::MAX, 0, 0, u64::MAX, 0, 0, 1];
+    calls::rank(3, looped, &[2, 2]);
+    calls::rank(3, looped, &[2, 2, 2]);
+    let to_count = [0b10, 0, u64::MAX, 1, 0, u64::MAX];
+    calls::reaches_without(2, &to_count, 0, 1, 0, 1);
+    let to_other = [0b10, 0, u64::MAX, 2, 0, u64::MAX];
+    calls::reaches_without(2, &to_other, 0, 1, 0, 1);
+    let to_zero = [0b10, 0, 4294967296, 0, 0, 4294967296];
+    calls::reaches_without(2, &to_zero, 0, 1, 0, 1);
+    let not_to_one = [0b10, 0, 4294967296, 1, 0, 4294967296];
+    calls::reaches_without(2, &not_to_one, 0, 1, 0, 1);
+    calls::reaches_without(1, &[1, 5], 0, 0, 0, 0);
 }
 
 // The diamond's words with the count from 0 to 3, word 5 + 3, raised by one; then recounted.
@@ -163,7 +259,7 @@ fn stray_bits() {
 }
 
 // 64 vertices, where no bit is stray: every lower vertex joined to every higher one; then with the count from 0 to 63, word
-// 64 + 63, one less.
+// 64 + 63, one less; then the last path from 0 to 63 and the first, with every count right again.
 fn most_edges() {
     lines::heading(b"every edge up, 64 vertices");
     let mut words = [GARBAGE; Sheet::WORDS];
@@ -180,6 +276,16 @@ fn most_edges() {
     lines::heading(b"every edge up with a wrong count");
     buffer::add(&mut words, 127, u64::MAX);
     calls::validate(64, &words);
+    lines::heading(b"every edge up, paths");
+    calls::recount(64, &mut words);
+    let sheet: &[u64] = &words;
+    let path: &mut [u8] = &mut [buffer::NO_VERTEX; Sheet::VERTICES];
+    calls::unrank(64, sheet, 0, 63, 4611686018427387903, path);
+    calls::rank(64, sheet, &[0, 63]);
+    calls::unrank(64, sheet, 0, 63, 0, path);
+    calls::rank(64, sheet, path);
+    calls::reaches_without(64, sheet, 0, 63, 0, 63);
+    calls::reaches_without(64, sheet, 62, 63, 62, 63);
 }
 
 // The sheet that the library makes, and its constants.
@@ -201,9 +307,13 @@ fn main() {
     one_vertex();
     let words = diamond();
     wrong_count(words);
-    same(edits(), words);
+    calls::same(b"same words ", &edits(), &words);
     refused_edits(words);
     damaged_edits();
+    questions(&words);
+    refused_questions(&words);
+    damaged_walks();
+    damaged_questions(words);
     cycles();
     stray_bits();
     most_edges();

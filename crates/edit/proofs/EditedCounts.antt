@@ -13,8 +13,7 @@ use lib.Bits.{bitOr}
 use lib.ListN.{length, getD, set}
 use Rattle.word.proofs.MaskLaws.{or-zero}
 use Rattle.word.specs.Bit.{bit, withoutBit, Lowest}
-use Rattle.word.proofs.BitLaws.{clear-below}
-use Rattle.word.proofs.CountLaws.{lowest-lt, Adding, adding-start, adding-more, adding-done}
+use Rattle.word.proofs.CountLaws.{Adding, adding-more, adding-done}
 use Rattle.graph.specs.Update.{fromSum}
 use Rattle.graph.proofs.Insertion.{from-cong}
 use Rattle.sheet.specs.Layout.{Shape, countsFrom, rowAt, countAt}
@@ -29,28 +28,15 @@ use Rattle.edit.proofs.FactorLaws.{Factors, signed-zero, edited-by}
 
 -- ---- the counts from i to the vertices of a mask added up, by the lowest bit of what is left of it
 
--- x and the counts from i to the vertices of rest add up to those to the vertices of the mask, modulo 2 ^ 64
-pub record SummingFrom (n : ℕ) (s : List ℕ) (i mask rest x : ℕ) : Type 0 where
-  pub below : rest < 2 ^ n
-  pub adding : Adding n mask rest (countAt n s i) x
-
 module _ (n : ℕ) (s : List ℕ) (i mask : ℕ) where
-  pub from-start : mask < 2 ^ n → SummingFrom n s i mask mask 0
-  from-start h = record { below = h; adding = adding-start n mask (countAt n s i) }
-
-  pub from-more : (rest x k base y r : ℕ) → SummingFrom n s i mask rest x → Lowest rest k → RowBase n i base
-      → y ≡ (x + getD s (base + k) 0) % 2 ^ 64 → r ≡ withoutBit rest k → SummingFrom n s i mask r y
+  pub from-more : (rest x k base y r : ℕ) → Adding n mask rest (countAt n s i) x → Lowest rest k → RowBase n i base
+      → y ≡ (x + getD s (base + k) 0) % 2 ^ 64 → r ≡ withoutBit rest k → Adding n mask r (countAt n s i) y
   from-more rest x k base y r was l at ey er =
-      rw er
-      record {
-        below = clear-below n rest k (was .below);
-        adding = adding-more n mask (countAt n s i) rest x k y (was .adding) l (lowest-lt n rest k l (was .below))
-            (ey ∙ ap (λ z. (x + z) % 2 ^ 64) (base-count n s i base at k));
-      }
+      adding-more n mask (countAt n s i) rest x k y r was l (ey ∙ ap (λ z. (x + z) % 2 ^ 64) (base-count n s i base at k)) er
 
-  pub from-done : (rest x : ℕ) → SummingFrom n s i mask rest x → rest ≡ 0 → x ≡ fromSum n (countAt n s) (bit mask) i % 2 ^ 64
+  pub from-done : (rest x : ℕ) → Adding n mask rest (countAt n s i) x → rest ≡ 0 → x ≡ fromSum n (countAt n s) (bit mask) i % 2 ^ 64
   unfolding fromSum
-  from-done rest x was e = adding-done n mask (countAt n s i) rest x (was .adding) e
+  from-done rest x was e = adding-done n mask (countAt n s i) rest x was e
 
 -- ---- a row with products added
 

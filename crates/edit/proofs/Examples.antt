@@ -10,19 +10,9 @@ use Rattle.graph.specs.Update.{fromSum, toSum}
 use Rattle.sheet.specs.Table.{firstTrue}
 use Rattle.sheet.specs.Answers.{answer}
 use Rattle.sheet.specs.Layout.{setBits, build, redoneWord, redone}
+use Rattle.sheet.proofs.Examples.{D}
 use Rattle.edit.specs.Edit.{insertEdge, deleteEdge, insertEdgesAt, deleteEdgesAt}
 use Rattle.edit.specs.Outcome.{some, someEdge, closes, editedRow, editedBy, editedCount, edited, editAnswer, editAfter}
-
--- D: 0 to 1 and 2, 1 to 3, 2 to 3
-pub D : List ℕ
-D =
-    6 ∷ 8 ∷ 8 ∷ 0 ∷ 0
-    ∷ 1 ∷ 1 ∷ 1 ∷ 2 ∷ 0
-    ∷ 0 ∷ 1 ∷ 0 ∷ 1 ∷ 0
-    ∷ 0 ∷ 0 ∷ 1 ∷ 1 ∷ 0
-    ∷ 0 ∷ 0 ∷ 0 ∷ 1 ∷ 0
-    ∷ 0 ∷ 0 ∷ 0 ∷ 0 ∷ 1
-    ∷ []
 
 -- D with 1 to 4 and 4 to 3
 pub E : List ℕ

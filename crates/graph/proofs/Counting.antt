@@ -117,7 +117,7 @@ module _ (n : ℕ) (w : ℕ → ℕ → ℕ) where
   -- ---- where there is no cycle, the walks are the paths
 
   -- a walk that came to a vertex twice would close a cycle
-  walk-path : Acyclic n w → (i : ℕ) (l : List ℕ) (j : ℕ) → i < n → Walk n w i l j → IsPath n w i j (i ∷ l)
+  pub walk-path : Acyclic n w → (i : ℕ) (l : List ℕ) (j : ℕ) → i < n → Walk n w i l j → IsPath n w i j (i ∷ l)
   walk-path a i l j h p = (refl, h, p, distinct i l h p)
     where
       distinct : (i : ℕ) (l : List ℕ) → i < n → Walk n w i l j → Distinct (i ∷ l)

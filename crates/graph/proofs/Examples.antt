@@ -1,14 +1,17 @@
--- Small graphs, counted by computing, and graphs for which the hypotheses of the counting theorem and of the bound are met. Assumes nothing.
+-- Small graphs, counted by computing, and graphs for which the hypotheses of the counting theorem, of the bound and of the
+-- law of the paths through an edge are met. Assumes nothing.
 use mathlib.Core.Path.{_≡_, refl}
 use mathlib.Core.List.{[], _∷_}
-use Prim.Native.Nat.{ℕ, zero, suc, _-_, _^_, _≤_, _<_, zero-le}
+use Prim.Native.Nat.{ℕ, zero, suc, _-_, _*_, _^_, _≤_, _<_, zero-le}
 use native.Mathlib.Omega.{arith}
 use lib.ListN.{getD}
 use Rattle.sums.specs.Sum.{sum, delta}
 use Rattle.graph.specs.Graph.{Exactly, IsPath, Cycle, Acyclic}
 use Rattle.graph.specs.Count.{walks, pathCount}
+use Rattle.graph.specs.Uses.{Uses, oneEdge}
 use Rattle.graph.proofs.Peeling.{order-acyclic}
 use Rattle.graph.proofs.Counting.{pathCount-exact}
+use Rattle.graph.proofs.Through.{paths-through}
 
 -- ---- from 0 to 1 and 2, and from each of these to 3
 
@@ -26,6 +29,11 @@ diamond-back = refl
 diamond-self : pathCount 4 diamond 1 1 ≡ 1
 unfolding diamond pathCount walks sum delta
 diamond-self = refl
+
+-- one of the two paths across uses the edge from 0 to 1
+diamond-through : pathCount 4 diamond 0 0 * pathCount 4 diamond 1 3 ≡ 1
+unfolding diamond pathCount walks sum delta
+diamond-through = refl
 
 -- ---- two edges from 0 to 1 and three from 1 to 2: each choice of edges counts
 
@@ -77,3 +85,14 @@ complete-count = refl
 -- it has as many paths as `bound` of proofs/Bound.antt allows
 complete-exactly : Exactly (IsPath 5 complete 0 4) (2 ^ (5 - 2))
 complete-exactly = rw complete-count at (pathCount-exact 5 complete (complete-acyclic 5) (λ i j hi hj. complete-le i j) 0 4 (omega arith))
+
+complete-through-count : pathCount 6 complete 0 2 * pathCount 6 complete 3 5 ≡ 4
+unfolding complete pathCount walks sum delta
+complete-through-count = refl
+
+-- two paths lead to the tail of the edge from 2 to 3 and two from its head: four use it
+complete-through : Exactly (λ p. IsPath 6 complete 0 5 p × Uses (oneEdge 2 3) p) 4
+unfolding complete
+complete-through =
+    rw complete-through-count at
+    (paths-through 6 complete (complete-acyclic 6) (λ i j hi hj. complete-le i j) 2 3 (omega arith) (omega arith) (omega arith) 0 5 (omega arith) (omega arith))

@@ -12,3 +12,4 @@ pub mod Insertion
 pub mod Editing
 pub mod Remainders
 pub mod Using
+pub mod Through

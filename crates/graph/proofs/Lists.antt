@@ -1,13 +1,15 @@
 -- Lists put together from lists: what is in them, how long they are, and when their entries all differ. With that, the laws of `Exactly`.
 -- Assumes nothing.
-use mathlib.Core.Path.{_≡_, refl, sym, ap, ap₂, _∙_}
+use mathlib.Core.Path.{_≡_, refl, sym, ap, ap₂, subst, _∙_}
 use mathlib.Core.Logic.{_⊎_, inl, inr}
 use mathlib.Core.List.{List, [], _∷_, _++_}
 use Prim.Native.Nat.{ℕ, zero, suc, _+_, _≤_, _<_, zero-le}
+use native.Mathlib.Nat.{mul-one}
 use native.Mathlib.Decide.{ℕ-discrete}
 use native.Mathlib.Omega.{arith}
 use lib.ListN.{length, length-append}
 use Rattle.sums.specs.Sum.{sum}
+use Rattle.sums.proofs.SumLaws.{sum-const}
 use Rattle.graph.specs.Graph.{_isIn_, Distinct, Exactly}
 
 pub in? : (x : ℕ) (l : List ℕ) → Dec (x isIn l)
@@ -228,4 +230,28 @@ module _ {A : Type 0} where
     all = λ x c. elim c [ inl m ↦ in-left x (p .list) (q .list) (p .all x m) | inr m ↦ in-right x (p .list) (q .list) (q .all x m) ];
     only = λ x m. elim (in-either x (p .list) (q .list) m) [ inl s ↦ inl (p .only x s) | inr s ↦ inr (q .only x s) ];
     many = length-append (p .list) (q .list) ∙ ap₂ (λ x y. x + y) (p .many) (q .many);
+  }
+
+  -- what f gives of different numbers differs, where g gives the numbers back
+  numbered-distinct : (k : ℕ) (f : ℕ → A) (g : A → ℕ) → ((m : ℕ) → m < k → g (f m) ≡ m) → Distinct (gather k (λ m. f m ∷ []))
+  unfolding gather
+  numbered-distinct zero f g b = tt
+  numbered-distinct (suc k) f g b =
+      append-distinct (gather k (λ m. f m ∷ [])) (f k ∷ []) (numbered-distinct k f g (λ m h. b m (omega arith))) ((λ m. m), tt)
+      (λ x p q.
+      let r = gather-of k (λ m. f m ∷ []) x p in
+      elim (r .2) [
+        | inl e ↦ elim q [ inl d ↦ omega (arith, r .1, b (r .0) (omega (arith, r .1)), b k (omega arith), ap g (sym e ∙ d)) | inr d ↦ d ]
+        | inr e ↦ e
+      ])
+
+  -- where f gives a P for each number below k, and g gives back each one's number, there are k of them
+  pub exactly-below : {P : A → Type 0} (k : ℕ) (f : ℕ → A) (g : A → ℕ) → ((m : ℕ) → m < k → P (f m)) → ((m : ℕ) → m < k → g (f m) ≡ m)
+      → ((x : A) → P x → (g x < k) × (f (g x) ≡ x)) → Exactly P k
+  exactly-below {P} k f g h b s = record {
+    list = gather k (λ m. f m ∷ []);
+    once = numbered-distinct k f g b;
+    all = λ x p. let r = s x p in gather-in k (λ m. f m ∷ []) x (g x) (r .0) (inl (sym (r .1)));
+    only = λ x p. let r = gather-of k (λ m. f m ∷ []) x p in elim (r .2) [ inl e ↦ subst P (sym e) (h (r .0) (r .1)) | inr e ↦ absurd e ];
+    many = gather-length k (λ m. f m ∷ []) ∙ sum-const k 1 ∙ mul-one k;
   }

@@ -1,7 +1,7 @@
 -- Two graphs that differ in the edges a test names, which only the second has: it has more paths by those that go along a named edge.
 -- Assumes nothing.
 use mathlib.Core.Path.{_≡_}
-use mathlib.Core.Logic.{inl, inr}
+use mathlib.Core.Logic.{_↔_, inl, inr}
 use mathlib.Core.Bool.{Bool, true, false, Bool-discrete, not-eq-not}
 use mathlib.Core.List.{List, [], _∷_}
 use Prim.Native.Nat.{ℕ, _+_, _<_}
@@ -48,6 +48,10 @@ module _ (n : ℕ) (w w′ : ℕ → ℕ → ℕ) (f : ℕ → ℕ → Bool)
   path-back : (i j : ℕ) (l : List ℕ) → IsPath n w′ i j l → ¬ (Uses f l) → IsPath n w i j l
   path-back i j [] p d = p
   path-back i j (a ∷ l) p d = (p .0, p .1, walk-back a l j (p .1) (p .2) d, p .3)
+
+  -- the paths of the first graph are those of the second that go along no named edge
+  pub path-unnamed-iff : (i j : ℕ) (l : List ℕ) → IsPath n w i j l ↔ (IsPath n w′ i j l × (¬ (Uses f l)))
+  path-unnamed-iff i j l = (λ p. (path-widen n w w′ edge-kept i j l p, path-unnamed i j l p), λ p. path-back i j l (p .0) (p .1))
 
   -- a path of the second graph is one of the first or goes along a named edge, and never both
   pub paths-using : (i j k k′ : ℕ) → Exactly (IsPath n w i j) k → Exactly (IsPath n w′ i j) k′

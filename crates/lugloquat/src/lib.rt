@@ -1,9 +1,14 @@
 // The C interface: each public call under a C name, with the contract of the call that it forwards to. include/lugloquat.h
-// declares what this file exports; a slice crosses as a pointer and a number of words.
+// declares what this file exports; a slice crosses as a pointer and a number of words or bytes.
 ghost use mathlib.Core.Path.{_≡_};
-ghost use Rattle.sheet.specs.Calls.{emptyAnswer, emptyAfter, pathCountAnswer, Recount, Validate};
+ghost use lib.ListN.{length};
+ghost use Rattle.sheet.specs.Calls.{emptyAnswer, emptyAfter, pathCountAnswer};
+ghost use Rattle.recount.specs.Calls.{Recount, Validate};
 ghost use Rattle.edit.specs.Edit.{insertEdge, deleteEdge, insertEdgesAt, deleteEdgesAt};
 ghost use Rattle.edit.specs.Outcome.{editAnswer, editAfter};
+ghost use Rattle.query.specs.ReachesWithout.{reachesWithoutAnswer};
+ghost use Rattle.query.specs.Unrank.{unrankAnswer, unrankAfter};
+ghost use Rattle.query.specs.Rank.{rankAnswer};
 use sheet::Answer;
 
 // The empty sheet of n vertices, whatever the words were. Refused by 1, 2. The value is 0.
@@ -85,12 +90,52 @@ pub extern "C" fn lugloquat_path_count(n: usize, sheet: &[u64], from: usize, to:
     sheet::path_count(n, sheet, from, to)
 }
 
+// Whether the counts show a path from one vertex to another that does not use an edge. Refused by 1, 2, 3, 7. The value is 1 or 0.
+#[no_mangle]
+pub extern "C" fn lugloquat_reaches_without(
+    n: usize,
+    sheet: &[u64],
+    from: usize,
+    to: usize,
+    edge_from: usize,
+    edge_to: usize,
+) -> Answer
+    ensures answer { λ r. ⌜ r ≡ reachesWithoutAnswer n (now (sheet .entry)) from to «edge_from» «edge_to» ⌝ }
+{
+    query::reaches_without(n, sheet, from, to, edge_from, edge_to)
+}
+
+// The walk from one vertex to another by a number, written to the first bytes of `path`, one byte a vertex.
+// Refused by 1, 2, 3, 10, 11, 9. The value is the number of vertices written.
+#[no_mangle]
+pub extern "C" fn lugloquat_unrank(
+    n: usize,
+    sheet: &[u64],
+    from: usize,
+    to: usize,
+    k: u64,
+    path: &mut [u8],
+) -> Answer
+    ensures answer { λ r. ⌜ r ≡ unrankAnswer n (now (sheet .entry)) from to k (length (now (path .entry))) ⌝ }
+    ensures bytes { λ r. ⌜ now (path .exit) ≡ unrankAfter n (now (sheet .entry)) from to k (now (path .entry)) ⌝ }
+{
+    query::unrank(n, sheet, from, to, k, path)
+}
+
+// The counts passed over on a path, one byte a vertex, added up. Refused by 1, 2, 3, 12. The value is that sum.
+#[no_mangle]
+pub extern "C" fn lugloquat_rank(n: usize, sheet: &[u64], path: &[u8]) -> Answer
+    ensures answer { λ r. ⌜ r ≡ rankAnswer n (now (sheet .entry)) (now (path .entry)) ⌝ }
+{
+    query::rank(n, sheet, path)
+}
+
 // The counts worked out afresh from the rows. Refused by 1, 2, 4, 8. The value is the number of set bits in all rows.
 #[no_mangle]
 pub extern "C" fn lugloquat_recount(n: usize, sheet: &mut [u64]) -> Answer
     ensures recounted { λ r. ⌜ Recount n (now (sheet .entry)) r (now (sheet .exit)) ⌝ }
 {
-    sheet::recount(n, sheet)
+    recount::recount(n, sheet)
 }
 
 // Whether the sheet is valid, whoever wrote it. Refused by 1, 2. The value is 1 or 0.
@@ -98,5 +143,5 @@ pub extern "C" fn lugloquat_recount(n: usize, sheet: &mut [u64]) -> Answer
 pub extern "C" fn lugloquat_validate(n: usize, sheet: &[u64]) -> Answer
     ensures tested { λ r. ⌜ Validate n (now (sheet .entry)) r ⌝ }
 {
-    sheet::validate(n, sheet)
+    recount::validate(n, sheet)
 }

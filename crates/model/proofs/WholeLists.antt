@@ -7,11 +7,13 @@ use Rattle.sheet.specs.declared.answer.Answer.{Answer}
 use Rattle.sheet.specs.Answers.{answer, answered}
 use Rattle.sheet.specs.Layout.{Shape, rowAt, countAt, edgeAt, redone}
 use Rattle.sheet.specs.Valid.{Valid}
-use Rattle.sheet.specs.Calls.{emptyAnswer, emptyAfter, Recount}
+use Rattle.sheet.specs.Calls.{emptyAnswer, emptyAfter}
 use Rattle.sheet.proofs.ShapeLaws.{shape-passed}
 use Rattle.sheet.proofs.Refusals.{empty-table}
 use Rattle.sheet.proofs.LayoutLaws.{length-redone, row-redone}
-use Rattle.sheet.proofs.Meaning.{recount-same, validate-iff, valid-validates, empty-leaves}
+use Rattle.sheet.proofs.Meaning.{empty-leaves}
+use Rattle.recount.specs.Calls.{Recount}
+use Rattle.recount.proofs.Meaning.{recount-same, validate-iff, valid-validates}
 use Rattle.edit.specs.Edit.{Edit}
 use Rattle.edit.specs.Model.{Model, opened, Fresh}
 use Rattle.edit.proofs.FreshLaws.{Modelled, modelled-valid, valid-modelled, fresh-only}

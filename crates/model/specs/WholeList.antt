@@ -6,7 +6,8 @@ use Rattle.sheet.specs.declared.answer.Answer.{Answer}
 use Rattle.sheet.specs.Answers.{answer}
 use Rattle.sheet.specs.Layout.{Shape, rowAt, countAt, edgeAt, redone}
 use Rattle.sheet.specs.Valid.{Valid}
-use Rattle.sheet.specs.Calls.{emptyAnswer, emptyAfter, Recount, Validate}
+use Rattle.sheet.specs.Calls.{emptyAnswer, emptyAfter}
+use Rattle.recount.specs.Calls.{Recount, Validate}
 use Rattle.edit.specs.Edit.{Edit}
 use Rattle.edit.specs.Outcome.{editAnswer, editAfter}
 use Rattle.edit.specs.Model.{Model, opened, Fresh}

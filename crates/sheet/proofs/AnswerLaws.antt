@@ -1,15 +1,13 @@
 -- The laws of answers, and of `path_count` where it is accepted: r is what the call answers, k what its checks gave. Assumes nothing.
 use mathlib.Core.Path.{_≡_, refl, sym, ap, ap₂, _∙_}
 use mathlib.Core.List.{List}
-use Prim.Native.Nat.{ℕ, zero, suc, _<_}
-use native.Mathlib.Omega.{arith}
-use lib.ListN.{length, getD}
+use Prim.Native.Nat.{ℕ, zero, suc}
+use lib.ListN.{length}
 use Rattle.sheet.specs.declared.answer.Answer.{Answer}
 use Rattle.sheet.specs.Answers.{answer, decided, answered}
 use Rattle.sheet.specs.Layout.{countAt}
 use Rattle.sheet.specs.Calls.{pathCountAnswer}
-use Rattle.sheet.specs.Internal.{verticesNumber, Place}
-use Rattle.sheet.proofs.ShapeLaws.{vertices-shape}
+use Rattle.sheet.specs.Internal.{verticesNumber}
 
 pub decided-old : {A : Type 0} (k : ℕ) (new old : A) → (k ≡ 0 → ⊥) → decided k new old ≡ old
 decided-old zero new old h = absurd (h refl)
@@ -35,9 +33,6 @@ module _ (k m : ℕ) (e : k ≡ m) where
 
 -- ---- path_count
 
-module _ (n : ℕ) (s : List ℕ) (i j k : ℕ) (ek : k ≡ verticesNumber n (length s) i j) where
-  pub path-count-within : (p : ℕ) → k ≡ 0 → Place n i j p → p < length s
-  path-count-within p z at = omega (arith, at .within, vertices-shape n s i j k ek z .long)
-
-  pub path-count-accepted : (p : ℕ) (r : Answer) → r ≡ answer 0 0 (getD s p 0) → k ≡ 0 → Place n i j p → r ≡ pathCountAnswer n s i j
-  path-count-accepted p r er z at = answered-accepted k _ ek (countAt n s i j) r z (er ∙ ap (λ (x : ℕ). answer 0 0 (getD s x 0)) (at .is))
+pub path-count-accepted : (n : ℕ) (s : List ℕ) (i j k : ℕ) → k ≡ verticesNumber n (length s) i j
+    → (x : ℕ) (r : Answer) → k ≡ 0 → x ≡ countAt n s i j → r ≡ answer 0 0 x → r ≡ pathCountAnswer n s i j
+path-count-accepted n s i j k ek x r z ex er = answered-accepted k _ ek (countAt n s i j) r z (er ∙ ap (λ (y : ℕ). answer 0 0 y) ex)

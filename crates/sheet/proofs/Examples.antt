@@ -1,5 +1,5 @@
--- Small sheets, computed from the definitions: document 01's cases with one vertex and with no or too many, and a valid sheet with an
--- edge. Assumes nothing.
+-- Small sheets, computed from the definitions: document 01's cases with one vertex and with no or too many, its orchard D, and a valid
+-- sheet with an edge. Assumes nothing.
 use mathlib.Core.Path.{_≡_, refl, subst}
 use mathlib.Core.List.{List, [], _∷_}
 use Prim.Native.Nat.{ℕ, zero, suc, _-_, _^_, _<_}
@@ -102,3 +102,19 @@ two-valid =
 two-path : Exactly (IsPath 2 (edgeAt two) 0 1) 1
 unfolding two
 two-path = two-valid .counts 0 1 (omega arith) (omega arith)
+
+-- document 01's orchard D, with five vertices: 0 to 1 and 2, 1 to 3, 2 to 3
+unfoldable pub D : List ℕ
+D =
+    6 ∷ 8 ∷ 8 ∷ 0 ∷ 0
+    ∷ 1 ∷ 1 ∷ 1 ∷ 2 ∷ 0
+    ∷ 0 ∷ 1 ∷ 0 ∷ 1 ∷ 0
+    ∷ 0 ∷ 0 ∷ 1 ∷ 1 ∷ 0
+    ∷ 0 ∷ 0 ∷ 0 ∷ 1 ∷ 0
+    ∷ 0 ∷ 0 ∷ 0 ∷ 0 ∷ 1
+    ∷ []
+
+-- its count from 0 to 3
+D-count : pathCountAnswer 5 D 0 3 ≡ answer 0 0 2
+unfolding D firstTrue
+D-count = refl

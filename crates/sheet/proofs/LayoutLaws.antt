@@ -12,6 +12,7 @@ use lib.Arith.{digits-div, digits-mod, digits-lt}
 use lib.ListN.{length, getD, List·getD-eq-default}
 use lib.Seq.{ext-getD}
 use Rattle.sheet.specs.Layout.{size, rowAt, countAt, build, redoneWord, redone}
+use Rattle.sheet.specs.Internal.{Place}
 
 -- ---- places
 
@@ -32,6 +33,9 @@ size-only n k e =
 -- a place among the counts is within a sheet
 pub place-lt : (n i j : ℕ) → i < n → j < n → n + i * n + j < size n
 place-lt n i j hi hj = omega (arith, digits-lt {q = i} {m = n} {r = j} {c = n} hi hj)
+
+pub place-count : (n : ℕ) (s : List ℕ) (i j p : ℕ) → Place n i j p → getD s p 0 ≡ countAt n s i j
+place-count n s i j p at = ap (λ x. getD s x 0) (at .is)
 
 pub row-within : (n i : ℕ) → i < n → n + i * n + n ≤ size n
 row-within n i h = omega (arith, place-lt n i (n - 1) h (omega arith))

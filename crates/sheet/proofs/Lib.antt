@@ -5,11 +5,8 @@ pub mod FillLaws
 pub mod LayoutLaws
 pub mod EmptyLaws
 pub mod StrayLaws
-pub mod OrderLaws
 pub mod RowLaws
 pub mod ValidLaws
-pub mod RecountLaws
-pub mod ValidateLaws
 pub mod Refusals
 pub mod Meaning
 pub mod Examples

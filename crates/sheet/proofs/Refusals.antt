@@ -4,9 +4,8 @@ use mathlib.Core.Path.{_≡_}
 use mathlib.Core.Logic.{_↔_}
 use mathlib.Core.List.{List}
 use Prim.Native.Nat.{ℕ}
-use Rattle.sheet.specs.declared.answer.Answer.{Answer}
 use Rattle.sheet.specs.Table.{First}
-use Rattle.sheet.specs.Calls.{emptyConditions, emptyAnswer, pathCountConditions, pathCountAnswer, recountConditions, Recount, validateConditions, Validate}
+use Rattle.sheet.specs.Calls.{emptyConditions, emptyAnswer, pathCountConditions, pathCountAnswer}
 use Rattle.sheet.proofs.TableLaws.{first-iff}
 use Rattle.sheet.proofs.ShapeLaws.{shape-first, vertices-first}
 
@@ -15,9 +14,3 @@ empty-table n s k = first-iff (emptyConditions n s) _ k (shape-first n s)
 
 pub path-count-table : (n : ℕ) (s : List ℕ) (i j k : ℕ) → (pathCountAnswer n s i j .number ≡ k) ↔ First (pathCountConditions n s i j) k
 path-count-table n s i j k = first-iff (pathCountConditions n s i j) _ k (vertices-first n s i j)
-
-pub recount-table : (n : ℕ) (s : List ℕ) (r : Answer) (t : List ℕ) → Recount n s r t → (k : ℕ) → (r .number ≡ k) ↔ First (recountConditions n s) k
-recount-table n s r t h k = first-iff (recountConditions n s) (r .number) k (h .number)
-
-pub validate-table : (n : ℕ) (s : List ℕ) (r : Answer) → Validate n s r → (k : ℕ) → (r .number ≡ k) ↔ First (validateConditions n s) k
-validate-table n s r h k = first-iff (validateConditions n s) (r .number) k (h .number)

@@ -13,7 +13,7 @@ use Rattle.sheet.specs.Layout.{Shape, size}
 use Rattle.sheet.specs.Conditions.{BadVertices, BadLength, vertexConditions, vertexTests, sized, sizedTests}
 use Rattle.sheet.specs.Internal.{shapeNumber, verticesNumber}
 use Rattle.sheet.proofs.TableLaws.{Agree, reflects-or, reflects-not, reflects-lt, reflects-le, reflects-eq, reflects-false}
-use Rattle.sheet.proofs.TableLaws.{first-true, first-past, first-here, first-next, first-none, first-stops, first-passes}
+use Rattle.sheet.proofs.TableLaws.{first-true, first-past, first-rest, first-here, first-next, first-none, first-stops, first-passes}
 
 -- a sheet of which neither holds has the shape
 pub shape-not : (n : ℕ) (s : List ℕ) → ¬ (BadVertices n) → ¬ (BadLength n s) → Shape n s
@@ -82,6 +82,10 @@ module _ (n : ℕ) (s : List ℕ) where
   pub shape-passed : Shape n s → (cs : Conditions) (k : ℕ) → First cs k → First (sized n s cs) k
   shape-passed h cs k f = inr (λ c. elim c [ inl l ↦ omega (arith, h .low) | inr l ↦ omega (arith, h .high) ], inr (λ d. d (h .long), f))
 
+  pub shape-rest : Shape n s → (cs : Conditions) (k : ℕ) → First (sized n s cs) k → First cs k
+  shape-rest h cs k f =
+      first-rest (λ d. d (h .long)) (first-rest (λ c. elim c [ inl l ↦ omega (arith, h .low) | inr l ↦ omega (arith, h .high) ]) f)
+
 -- ---- the same of tests
 
 module _ (n len k : ℕ) (e : k ≡ shapeNumber n len) (ts : Tests) where
@@ -93,10 +97,13 @@ module _ (n len k : ℕ) (e : k ≡ shapeNumber n len) (ts : Tests) where
 
 -- ---- two vertices named
 
+pub vertices-agree : (n i j : ℕ) (cs : Conditions) (ts : Tests) → Agree cs ts → Agree (vertexConditions n i j cs) (vertexTests n i j ts)
+vertices-agree n i j cs ts a = (reflects-or (reflects-le n i) (reflects-le n j), refl, λ d. a)
+
 pub vertices-first : (n : ℕ) (s : List ℕ) (i j : ℕ) → First (sized n s (vertexConditions n i j [])) (verticesNumber n (length s) i j)
 vertices-first n s i j =
     first-true (sized n s (vertexConditions n i j [])) (sizedTests n (length s) (vertexTests n i j []))
-    (sized-agree n s (vertexConditions n i j []) (vertexTests n i j []) (λ h. (reflects-or (reflects-le n i) (reflects-le n j), refl, λ d. tt)))
+    (sized-agree n s (vertexConditions n i j []) (vertexTests n i j []) (λ h. vertices-agree n i j [] [] tt))
 
 -- the ways out of `vertices_number`: k is what the check of the shape gave
 module _ (n len k : ℕ) (e : k ≡ shapeNumber n len) (i j : ℕ) where
@@ -130,3 +137,6 @@ module _ (n : ℕ) (s : List ℕ) (i j k : ℕ) (e : k ≡ verticesNumber n (len
   vertices-below =
       let r = first-past (first-past (first-past accepted-vertices .1) .1) .0 in
       (vertices-shape .high, lt-of-not-le (λ l. r (inl l)), lt-of-not-le (λ l. r (inr l)))
+
+  pub vertices-ready : Shape n s × (i < n) × (j < n)
+  vertices-ready = (vertices-shape, vertices-below .1, vertices-below .2)

@@ -87,10 +87,13 @@ first-only (c ∷ cs) j k (inr p) (inr q) = first-only cs j k (p .1) (q .1)
 pub first-iff : (cs : Conditions) (m k : ℕ) → First cs m → (m ≡ k) ↔ First cs k
 first-iff cs m k f = (λ e. rw e at f, first-only cs m k f)
 
--- where a number is 0, its condition does not hold
+-- a condition whose number is not given does not hold; so where the number is 0
+pub first-other : {P Q : Type 0} {m k : ℕ} → ¬ (m ≡ k) → ((P × (m ≡ k)) ⊎ ((¬ P) × Q)) → (¬ P) × Q
+first-other d (inl p) = absurd (d (p .1))
+first-other d (inr p) = p
+
 pub first-past : {P Q : Type 0} {k : ℕ} → ((P × (0 ≡ suc k)) ⊎ ((¬ P) × Q)) → (¬ P) × Q
-first-past (inl p) = absurd (omega (arith, p .1))
-first-past (inr p) = p
+first-past = first-other (λ e. omega (arith, e))
 
 -- where a condition does not hold, those after it give the number
 pub first-rest : {P Q : Type 0} {j k : ℕ} → ¬ P → ((P × (k ≡ j)) ⊎ ((¬ P) × Q)) → Q

@@ -1,15 +1,14 @@
--- The conditions of document 01's table that the calls of this crate look for, as statements and as tests. Definitions only.
+-- The conditions of document 01's table that more than one crate looks for, as statements and as tests. Definitions only.
 -- Assumes nothing.
 use mathlib.Core.Path.{_≡_}
 use mathlib.Core.Logic.{_⊎_}
 use mathlib.Core.Bool.{not, _||_}
-use mathlib.Core.List.{List, [], _∷_}
+use mathlib.Core.List.{List, _∷_}
 use Prim.Native.Nat.{ℕ, _≤_, _<_}
 use lib.Dec.{ltb, leb, eqb}
 use lib.ListN.{length}
 use Rattle.word.specs.Bit.{bit}
-use Rattle.graph.specs.Graph.{Cycle}
-use Rattle.sheet.specs.Layout.{mostVertices, size, rowAt, edgeAt}
+use Rattle.sheet.specs.Layout.{mostVertices, size, rowAt}
 use Rattle.sheet.specs.Table.{_gives_, Conditions, Tests}
 
 -- 1: n is not 1 to 64
@@ -38,10 +37,6 @@ vertexConditions n i j l = (NoVertex n i ⊎ NoVertex n j) gives 3 ∷ l
 
 abbrev pub vertexTests : ℕ → ℕ → ℕ → Tests → Tests
 vertexTests n i j l = (leb n i || leb n j) gives 3 ∷ l
-
--- of the rows in a recount
-abbrev pub rowConditions : ℕ → List ℕ → Conditions
-rowConditions n s = StrayRow n s gives 4 ∷ Cycle n (edgeAt s) gives 8 ∷ []
 
 -- what every call looks for first, and then the conditions l
 abbrev pub sized : ℕ → List ℕ → Conditions → Conditions

@@ -1,8 +1,5 @@
 // The checks that calls share.
 ghost use mathlib.Core.Path.{_≡_};
-ghost use Rattle.sheet.specs.Layout.{Shape};
-ghost use Rattle.sheet.specs.Table.{Reflects};
-ghost use Rattle.sheet.specs.Conditions.{StrayRow};
 ghost use Rattle.sheet.specs.Internal.{shapeNumber, verticesNumber};
 use crate::answer::Refusal;
 use crate::layout;
@@ -39,19 +36,4 @@ pub fn vertices_number(n: usize, words: usize, i: usize, j: usize) -> u64
         return Refusal::VERTEX;
     }
     0
-}
-
-// Whether a row has a bit at n or above.
-pub(crate) fn has_stray_row(n: usize, sheet: &[u64]) -> bool
-    requires { ⌜ Shape n (now sheet) ⌝ }
-    ensures { λ r. ⌜ Reflects r (StrayRow n (now (sheet .entry))) ⌝ }
-{
-    let mut i = 0;
-    while i < n {
-        if !word::within(sheet[i], n) {
-            return true;
-        }
-        i += 1;
-    }
-    false
 }

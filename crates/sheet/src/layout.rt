@@ -1,7 +1,7 @@
 // Where what stands in a sheet, and the sheet's own type.
 ghost use mathlib.Core.Path.{_≡_};
 ghost use Prim.Native.Nat.{_≤_, _<_};
-ghost use Rattle.sheet.specs.Layout.{mostVertices, size, emptySheet};
+ghost use Rattle.sheet.specs.Layout.{mostVertices, size, Shape, countAt, emptySheet};
 ghost use Rattle.sheet.specs.Internal.{Place, RowBase};
 use crate::fill;
 
@@ -50,4 +50,12 @@ pub(crate) fn count_place(n: usize, i: usize, j: usize) -> usize
     ensures { λ r. ⌜ Place n i j r ⌝ }
 {
     row_base(n, i) + j
+}
+
+// Internal: the count from vertex i to vertex j.
+pub fn count_at(n: usize, sheet: &[u64], i: usize, j: usize) -> u64
+    requires { ⌜ (Shape n (now sheet)) × (i < n) × (j < n) ⌝ }
+    ensures { λ r. ⌜ r ≡ countAt n (now (sheet .entry)) i j ⌝ }
+{
+    sheet[count_place(n, i, j)]
 }

@@ -1,17 +1,12 @@
 // Sheets of path counts: the adjacency rows of an acyclic graph and the number of paths between every two vertices, in the
 // words of a lent slice. The calls of this file answer every n, every length and all words.
 ghost use mathlib.Core.Path.{_≡_};
-ghost use Rattle.sheet.specs.Layout.{Shape};
-ghost use Rattle.sheet.specs.Table.{Reflects};
-ghost use Rattle.sheet.specs.Valid.{Valid};
-ghost use Rattle.sheet.specs.Calls.{emptyAnswer, emptyAfter, pathCountAnswer, Recount, Validate};
-ghost use Rattle.sheet.specs.Internal.{counted, RowsBelow, Ordered};
+ghost use Rattle.sheet.specs.Calls.{emptyAnswer, emptyAfter, pathCountAnswer};
 
 mod answer;
 pub mod checks;
 mod fill;
 pub mod layout;
-mod order;
 pub mod rows;
 
 pub use answer::Answer;
@@ -39,68 +34,5 @@ pub fn path_count(n: usize, sheet: &[u64], from: usize, to: usize) -> Answer
     if number != 0 {
         return Answer::refused(number);
     }
-    let k = layout::count_place(n, from, to);
-    Answer::accepted(sheet[k])
-}
-
-// The counts, in the order given: each row from those of its successors, which are earlier.
-fn fill_counts(n: usize, sheet: &mut [u64], order: &[usize; Sheet::VERTICES])
-    requires { ⌜ (Shape n (now sheet)) × (RowsBelow n (now sheet)) × (Ordered n (now sheet) (now order)) ⌝ }
-    ensures { λ r. ⌜ now (sheet .exit) ≡ counted n (now (sheet .entry)) ⌝ }
-{
-    let mut k = 0;
-    while k < n {
-        rows::fill_row(n, sheet, order[k]);
-        k += 1;
-    }
-}
-
-// The counts worked out afresh from the rows (document 01: the survey). Refused by 1, 2, 4, 8, before a word is written. The
-// value is the number of set bits in all rows.
-pub fn recount(n: usize, sheet: &mut [u64]) -> Answer
-    ensures recounted { λ r. ⌜ Recount n (now (sheet .entry)) r (now (sheet .exit)) ⌝ }
-{
-    let number = checks::shape_number(n, sheet.len());
-    if number != 0 {
-        return Answer::refused(number);
-    }
-    if checks::has_stray_row(n, sheet) {
-        return Answer::refused(Refusal::STRAY_BIT);
-    }
-    let mut order = [0usize; Sheet::VERTICES];
-    if !order::find_order(n, sheet, &mut order) {
-        return Answer::refused(Refusal::CYCLE);
-    }
-    fill_counts(n, sheet, &order);
-    Answer::accepted(rows::count_set_bits(n, sheet))
-}
-
-// Whether a sheet of the right shape is valid. Where there is no cycle, the counts are the numbers of paths exactly
-// if they satisfy the recurrence.
-fn is_valid(n: usize, sheet: &[u64]) -> bool
-    requires { ⌜ Shape n (now sheet) ⌝ }
-    ensures { λ r. ⌜ Reflects r (Valid n (now (sheet .entry))) ⌝ }
-{
-    if checks::has_stray_row(n, sheet) {
-        return false;
-    }
-    let mut found = [0usize; Sheet::VERTICES];
-    if !order::find_order(n, sheet, &mut found) {
-        return false;
-    }
-    rows::rows_hold(n, sheet)
-}
-
-// Whether the sheet is valid, whoever wrote it (document 01: the test of a stored sheet). Refused by 1, 2. The value is 1 or 0.
-pub fn validate(n: usize, sheet: &[u64]) -> Answer
-    ensures tested { λ r. ⌜ Validate n (now (sheet .entry)) r ⌝ }
-{
-    let number = checks::shape_number(n, sheet.len());
-    if number != 0 {
-        return Answer::refused(number);
-    }
-    if is_valid(n, sheet) {
-        return Answer::accepted(1);
-    }
-    Answer::accepted(0)
+    Answer::accepted(layout::count_at(n, sheet, from, to))
 }

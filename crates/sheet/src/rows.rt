@@ -1,11 +1,9 @@
-// Rows of counts, added up, compared and written: what the recurrence of path counts asks.
+// Rows of counts added up, and the set bits of the rows.
 ghost use mathlib.Core.Path.{_≡_};
-ghost use Prim.Native.Nat.{ℕ, _+_, _≤_, _<_, _^_};
-ghost use lib.ListN.{length, getD};
-ghost use Rattle.sheet.specs.Table.{Reflects};
-ghost use Rattle.sheet.specs.Layout.{Shape, rowAt, setBits};
-ghost use Rattle.sheet.specs.Fill.{over};
-ghost use Rattle.sheet.specs.Internal.{RowAdded, RowsSummed, SuccessorsSummed, SameRow, RowHolds, RowFilled, RowsBelow};
+ghost use Prim.Native.Nat.{_+_, _≤_, _<_, _^_};
+ghost use lib.ListN.{length};
+ghost use Rattle.sheet.specs.Layout.{Shape, setBits};
+ghost use Rattle.sheet.specs.Internal.{RowAdded, RowsSummed};
 use crate::layout;
 use crate::layout::Sheet;
 
@@ -35,75 +33,6 @@ pub fn sum_rows(n: usize, sheet: &[u64], mask: u64) -> [u64; Sheet::VERTICES]
         rest = word::clear_bit(rest, b);
     }
     t
-}
-
-// The counts from i as the recurrence gives them: one to i itself, and those from its successors added up, modulo 2^64.
-fn sum_successors(n: usize, sheet: &[u64], i: usize) -> [u64; Sheet::VERTICES]
-    requires { ⌜ (Shape n (now sheet)) × (i < n) × (rowAt (now sheet) i < 2 ^ n) ⌝ }
-    ensures { λ r. ⌜ SuccessorsSummed n (now (sheet .entry)) i r ⌝ }
-{
-    let mut t = sum_rows(n, sheet, sheet[i]);
-    t[i] = word::wrapping_add(t[i], 1);
-    t
-}
-
-// Whether the n words from base on are those of t.
-fn same_row(n: usize, sheet: &[u64], base: usize, t: &[u64; Sheet::VERTICES]) -> bool
-    requires { ⌜ (n ≤ 64) × (base + n ≤ length (now sheet)) ⌝ }
-    ensures { λ r. ⌜ Reflects r (SameRow n (now (sheet .entry)) base (now (t .entry))) ⌝ }
-{
-    let mut difference = 0;
-    let mut j = 0;
-    while j < n {
-        difference = difference | (sheet[base + j] ^ t[j]);
-        j += 1;
-    }
-    difference == 0
-}
-
-// Whether the counts from i satisfy the recurrence.
-fn row_holds(n: usize, sheet: &[u64], i: usize) -> bool
-    requires { ⌜ (Shape n (now sheet)) × (i < n) × (rowAt (now sheet) i < 2 ^ n) ⌝ }
-    ensures { λ r. ⌜ Reflects r (RowHolds n (now (sheet .entry)) i) ⌝ }
-{
-    let t = sum_successors(n, sheet, i);
-    same_row(n, sheet, layout::row_base(n, i), &t)
-}
-
-// Whether all counts satisfy the recurrence.
-pub(crate) fn rows_hold(n: usize, sheet: &[u64]) -> bool
-    requires { ⌜ (Shape n (now sheet)) × (RowsBelow n (now sheet)) ⌝ }
-    ensures { λ r. ⌜ Reflects r ((i : ℕ) → i < n → RowHolds n (now (sheet .entry)) i) ⌝ }
-{
-    let mut i = 0;
-    while i < n {
-        if !row_holds(n, sheet, i) {
-            return false;
-        }
-        i += 1;
-    }
-    true
-}
-
-// The first n words of t, written from base on.
-fn put_row(n: usize, sheet: &mut [u64], base: usize, t: &[u64; Sheet::VERTICES])
-    requires { ⌜ (n ≤ 64) × (base + n ≤ length (now sheet)) ⌝ }
-    ensures { λ r. ⌜ now (sheet .exit) ≡ over (now (sheet .entry)) base (λ (j : ℕ). getD (now (t .entry)) j 0) n ⌝ }
-{
-    let mut j = 0;
-    while j < n {
-        sheet[base + j] = t[j];
-        j += 1;
-    }
-}
-
-// The counts from v, written as the recurrence gives them.
-pub(crate) fn fill_row(n: usize, sheet: &mut [u64], v: usize)
-    requires { ⌜ (Shape n (now sheet)) × (v < n) × (rowAt (now sheet) v < 2 ^ n) ⌝ }
-    ensures { λ r. ⌜ RowFilled n (now (sheet .entry)) v (now (sheet .exit)) ⌝ }
-{
-    let t = sum_successors(n, sheet, v);
-    put_row(n, sheet, layout::row_base(n, v), &t);
 }
 
 // Internal: the set bits of all rows.

@@ -13,7 +13,7 @@ use Rattle.sums.specs.Sum.{sum, delta}
 use Rattle.sums.specs.Modulo.{Congruent}
 use Rattle.sums.proofs.SumLaws.{delta-refl, delta-diff, sum-cong, sum-add, sum-all-zero, sum-pick, term-le}
 use Rattle.word.specs.Bit.{bit, withoutBit, bitCount, Lowest}
-use Rattle.word.proofs.BitLaws.{bit-lt, bit-cases, bit-zero, bit-half, bit-mod, bit-clear-same, bit-clear-other, clear-lt, half-lt, bit-above-zero, bit-one-lt}
+use Rattle.word.proofs.BitLaws.{bit-lt, bit-cases, bit-zero, bit-half, bit-mod, bit-clear-same, bit-clear-other, clear-below, clear-lt, half-lt, bit-above-zero, bit-one-lt}
 
 -- ---- a sum over the set bits, where one bit is cleared, and where none is left
 
@@ -127,19 +127,25 @@ lowest-cleared-lt x b r l e = rw e (clear-lt x b (l .set))
 
 -- ---- a sum over the bits of a mask, by the lowest bit of what is left of it
 
--- x and the terms at the bits of rest add up to those at the bits of the mask, modulo 2 ^ 64
+-- x and the terms at the bits of rest, of which none is at n or above, add up to those at the bits of the mask, modulo 2 ^ 64
 pub record Adding (n mask rest : ℕ) (f : ℕ → ℕ) (x : ℕ) : Type 0 where
+  pub below : rest < 2 ^ n
   pub small : x < 2 ^ 64
   pub sums : Congruent (2 ^ 64) (x + sum n (λ b. bit rest b * f b)) (sum n (λ b. bit mask b * f b))
 
 module _ (n mask : ℕ) (f : ℕ → ℕ) where
-  pub adding-start : Adding n mask mask f 0
-  adding-start = record { small = omega arith; sums = omega arith }
+  pub adding-start : mask < 2 ^ n → Adding n mask mask f 0
+  adding-start h = record { below = h; small = omega arith; sums = omega arith }
 
-  pub adding-more : (rest x b y : ℕ) → Adding n mask rest f x → Lowest rest b → b < n → y ≡ (x + f b) % 2 ^ 64 → Adding n mask (withoutBit rest b) f y
-  adding-more rest x b y was l h e =
+  pub adding-more : (rest x b y r : ℕ) → Adding n mask rest f x → Lowest rest b → y ≡ (x + f b) % 2 ^ 64 → r ≡ withoutBit rest b → Adding n mask r f y
+  adding-more rest x b y r was l e er =
       let t : bit rest b * f b ≡ f b = ap (λ z. z * f b) (l .set) ∙ one-mul (f b) in
-      record { small = omega arith; sums = omega (arith, was .sums, sum-clear n rest b f h) }
+      rw er
+      record {
+        below = clear-below n rest b (was .below);
+        small = omega arith;
+        sums = omega (arith, was .sums, sum-clear n rest b f (lowest-lt n rest b l (was .below)));
+      }
 
   pub adding-done : (rest x : ℕ) → Adding n mask rest f x → rest ≡ 0 → x ≡ sum n (λ b. bit mask b * f b) % 2 ^ 64
   adding-done rest x was e = omega (arith, was .small, was .sums, ap (λ r. sum n (λ b. bit r b * f b)) e ∙ sum-no-bits n f)

@@ -54,6 +54,10 @@ bit-and x y j =
     (λ e. omega (arith, and-step (x / 2 ^ j) (y / 2 ^ j), ap (λ b. b * bit y j) e))
     (bit-cases x j)
 
+-- the bits of x below n
+pub bit-below : (x n j : ℕ) → j < n → bit (bitAnd x (2 ^ n - 1)) j ≡ bit x j
+bit-below x n j h = bit-and x (2 ^ n - 1) j ∙ ap (λ z. bit x j * z) (bit-low n j h) ∙ mul-one (bit x j)
+
 -- and what is in one of them
 pub bit-or : (x y j : ℕ) → bit (bitOr x y) j ≡ bit x j + (1 - bit x j) * bit y j
 bit-or x y j =

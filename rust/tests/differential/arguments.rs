@@ -53,7 +53,7 @@ pub fn vertex(rng: &mut Rng, n: usize) -> usize {
 }
 
 /// Mostly no vertex below n: often n itself, or not far above, or far above.
-fn no_vertex(rng: &mut Rng, n: usize) -> usize {
+pub fn no_vertex(rng: &mut Rng, n: usize) -> usize {
     let in_range = rng.below(n.clamp(1, 64));
     let others = [
         n,
@@ -143,7 +143,7 @@ fn to_delete(rng: &mut Rng, n: usize, sheet: &[u64]) -> Edges {
 }
 
 /// An edge that is there, often one from a vertex to itself; any pair if there is none.
-fn edge_there(rng: &mut Rng, n: usize, sheet: &[u64]) -> (usize, usize) {
+pub fn edge_there(rng: &mut Rng, n: usize, sheet: &[u64]) -> (usize, usize) {
     let mut edges = graphs::edges(&model::graph_of(n, sheet));
     if edges.iter().any(|(from, to)| from == to) && rng.one_in(2) {
         edges.retain(|(from, to)| from == to);

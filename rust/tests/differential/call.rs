@@ -8,7 +8,25 @@ pub enum Call {
     Empty,
     Insert(Edges),
     Delete(Edges),
-    PathCount { from: usize, to: usize },
+    PathCount {
+        from: usize,
+        to: usize,
+    },
+    /// Without the edge from `edge_from` to `edge_to`.
+    ReachesWithout {
+        from: usize,
+        to: usize,
+        edge_from: usize,
+        edge_to: usize,
+    },
+    /// The path goes to the buffer for it.
+    Unrank {
+        from: usize,
+        to: usize,
+        k: u64,
+    },
+    /// The path is the one in the buffer for it.
+    Rank,
     Recount,
     Validate,
 }
@@ -20,10 +38,11 @@ pub enum Edges {
     At { v: usize, predecessors: u64, successors: u64 },
 }
 
-/// The buffers of a case.
+/// The buffers of a case. Calls that take no path are lent no byte.
 #[derive(Clone)]
 pub struct Buffers {
     pub sheet: Vec<u64>,
+    pub path: Vec<u8>,
 }
 
 /// What the model is: it takes n, the call and the buffers, changes these as the call does, and answers.
@@ -92,6 +111,24 @@ pub const ALLOWED: &[Outcome] = &[
     numbered("path_count", 1),
     numbered("path_count", 2),
     numbered("path_count", 3),
+    saying("reaches_without", 0),
+    saying("reaches_without", 1),
+    numbered("reaches_without", 1),
+    numbered("reaches_without", 2),
+    numbered("reaches_without", 3),
+    numbered("reaches_without", 7),
+    numbered("unrank", 0),
+    numbered("unrank", 1),
+    numbered("unrank", 2),
+    numbered("unrank", 3),
+    numbered("unrank", 10),
+    numbered("unrank", 11),
+    numbered("unrank", 9),
+    numbered("rank", 0),
+    numbered("rank", 1),
+    numbered("rank", 2),
+    numbered("rank", 3),
+    numbered("rank", 12),
     numbered("recount", 0),
     numbered("recount", 1),
     numbered("recount", 2),
@@ -102,6 +139,13 @@ pub const ALLOWED: &[Outcome] = &[
     numbered("validate", 1),
     numbered("validate", 2),
 ];
+
+impl Buffers {
+    /// A sheet, and no path.
+    pub fn of_sheet(sheet: Vec<u64>) -> Buffers {
+        Buffers { sheet, path: Vec::new() }
+    }
+}
 
 impl Edges {
     pub fn one(from: usize, to: usize) -> Edges {
@@ -132,6 +176,9 @@ impl Call {
             Call::Insert(Edges::At { .. }) => "insert_edges_at",
             Call::Delete(Edges::At { .. }) => "delete_edges_at",
             Call::PathCount { .. } => "path_count",
+            Call::ReachesWithout { .. } => "reaches_without",
+            Call::Unrank { .. } => "unrank",
+            Call::Rank => "rank",
             Call::Recount => "recount",
             Call::Validate => "validate",
         }
@@ -141,9 +188,23 @@ impl Call {
         matches!(self, Call::Insert(_) | Call::Delete(_))
     }
 
+    /// Whether it is a question about paths.
+    pub fn is_question(&self) -> bool {
+        matches!(self, Call::ReachesWithout { .. } | Call::Unrank { .. } | Call::Rank)
+    }
+
+    pub fn takes_path(&self) -> bool {
+        matches!(self, Call::Unrank { .. } | Call::Rank)
+    }
+
+    /// Whether it leaves every sheet alone.
+    pub fn only_reads_sheet(&self) -> bool {
+        matches!(self, Call::Validate | Call::PathCount { .. }) || self.is_question()
+    }
+
     /// Whether the value of an accepted call is 1 for yes and 0 for no.
     fn says_yes_or_no(&self) -> bool {
-        matches!(self, Call::Validate)
+        matches!(self, Call::Validate | Call::ReachesWithout { .. })
     }
 
     pub fn outcome(&self, answer: &Answer) -> Outcome {

@@ -30,8 +30,9 @@ pub struct Compared {
     pub calls: u64,
 }
 
-/// Where a buffer first differs: the place counts from the first word lent, so that one before it is negative.
+/// Where a buffer first differs: the place counts from the first word or byte lent, so that one before it is negative.
 struct Difference {
+    of: &'static str,
     place: isize,
     wanted: u64,
     library: u64,
@@ -48,47 +49,84 @@ pub struct Mismatch {
 
 /// A buffer between guards, in one allocation.
 #[derive(Clone)]
-struct Guarded {
-    all: Vec<u64>,
+struct Guarded<T> {
+    all: Vec<T>,
     start: usize,
     length: usize,
 }
 
-impl Guarded {
-    /// The buffer between 4 to 11 guards on each side.
-    fn new(lent: &[u64], rng: &mut Rng) -> Guarded {
+impl<T: Copy + Into<u64> + PartialEq> Guarded<T> {
+    /// The buffer between 4 to 11 guards on each side, which are drawn.
+    fn new(lent: &[T], draw: fn(&mut Rng, usize) -> Vec<T>, rng: &mut Rng) -> Guarded<T> {
         let (start, behind) = (4 + rng.below(8), 4 + rng.below(8));
-        let mut all = rng.words(start);
+        let mut all = draw(rng, start);
         all.extend_from_slice(lent);
-        all.extend(rng.words(behind));
+        all.extend(draw(rng, behind));
         let length = lent.len();
         Guarded { all, start, length }
     }
 
     /// The same guards around another buffer of the same length.
-    fn around(&self, lent: &[u64]) -> Guarded {
+    fn around(&self, lent: &[T]) -> Guarded<T> {
         let mut other = self.clone();
         other.all[self.start..self.start + self.length].copy_from_slice(lent);
         other
     }
 
-    /// The first word lent. What stands around it belongs to the same allocation.
-    fn pointer(&mut self) -> *mut u64 {
+    /// The first one lent. What stands around it belongs to the same allocation.
+    fn pointer(&mut self) -> *mut T {
         self.all.as_mut_ptr().wrapping_add(self.start)
     }
 
-    fn difference(&self, library: &Guarded) -> Option<Difference> {
+    fn difference(&self, of: &'static str, library: &Guarded<T>) -> Option<Difference> {
         let at = (0..self.all.len()).find(|&at| self.all[at] != library.all[at])?;
         Some(Difference {
+            of,
             place: at as isize - self.start as isize,
-            wanted: self.all[at],
-            library: library.all[at],
+            wanted: self.all[at].into(),
+            library: library.all[at].into(),
         })
     }
 }
 
-/// Runs the case on the model once and on the library by each way, and compares the answers, every word lent, and every guard: with
-/// the model's, and with those known without it.
+/// The buffers of a case between guards.
+struct AllGuarded {
+    sheet: Guarded<u64>,
+    path: Guarded<u8>,
+}
+
+impl AllGuarded {
+    fn new(lent: &Buffers, rng: &mut Rng) -> AllGuarded {
+        AllGuarded {
+            sheet: Guarded::new(&lent.sheet, Rng::words, rng),
+            path: Guarded::new(&lent.path, Rng::bytes, rng),
+        }
+    }
+
+    fn around(&self, lent: &Buffers) -> AllGuarded {
+        AllGuarded {
+            sheet: self.sheet.around(&lent.sheet),
+            path: self.path.around(&lent.path),
+        }
+    }
+
+    fn lent(&mut self) -> Lent {
+        Lent {
+            sheet: self.sheet.pointer(),
+            words: self.sheet.length,
+            path: self.path.pointer(),
+            path_bytes: self.path.length,
+        }
+    }
+
+    fn difference(&self, library: &AllGuarded) -> Option<Difference> {
+        let of_sheet = self.sheet.difference("word of the sheet", &library.sheet);
+        of_sheet.or_else(|| self.path.difference("byte of the path", &library.path))
+    }
+}
+
+/// Runs the case on the model once and on the library by each way, and compares the answers, every word and byte lent, and every
+/// guard: with the model's, and with those known without it.
 pub fn compare(case: &Case, model: Model, ways: &[Way], rng: &mut Rng) -> Result<Compared, Box<Mismatch>> {
     let mut after = case.lent.clone();
     let answer = model(case.n, &case.call, &mut after);
@@ -96,7 +134,7 @@ pub fn compare(case: &Case, model: Model, ways: &[Way], rng: &mut Rng) -> Result
     let modelled = Wanted { by, answer, after };
     let mut calls = 0;
     for way in ways {
-        if !way.only_without_words || case.lent.sheet.is_empty() {
+        if !way.only_with_empty || case.lends_empty() {
             compare_by(way, case, &modelled, rng)?;
             calls += 1;
         }
@@ -106,14 +144,13 @@ pub fn compare(case: &Case, model: Model, ways: &[Way], rng: &mut Rng) -> Result
 }
 
 fn compare_by(way: &Way, case: &Case, modelled: &Wanted, rng: &mut Rng) -> Result<(), Box<Mismatch>> {
-    let mut sheet = Guarded::new(&case.lent.sheet, rng);
+    let mut buffers = AllGuarded::new(&case.lent, rng);
     let all_wanted = case.known.iter().chain([modelled]);
-    let all_wanted: Vec<_> = all_wanted.map(|wanted| (wanted, sheet.around(&wanted.after.sheet))).collect();
-    let lent = Lent { sheet: sheet.pointer(), words: sheet.length };
-    // SAFETY: the words lent stand in an allocation of their own, which outlives the call and which nobody else uses.
-    let library = unsafe { (way.library)(case.n, &case.call, lent) };
-    for (wanted, sheet_wanted) in all_wanted {
-        let difference = sheet_wanted.difference(&sheet);
+    let all_wanted: Vec<_> = all_wanted.map(|wanted| (wanted, buffers.around(&wanted.after))).collect();
+    // SAFETY: each buffer lent stands in an allocation of its own, which outlives the call and which nobody else uses.
+    let library = unsafe { (way.library)(case.n, &case.call, buffers.lent()) };
+    for (wanted, buffers_wanted) in all_wanted {
+        let difference = buffers_wanted.difference(&buffers);
         if wanted.answer != library || difference.is_some() {
             return Err(Box::new(Mismatch {
                 way: way.name,
@@ -127,10 +164,21 @@ fn compare_by(way: &Way, case: &Case, modelled: &Wanted, rng: &mut Rng) -> Resul
     Ok(())
 }
 
+impl Case {
+    /// Whether a buffer that the call takes has length 0.
+    fn lends_empty(&self) -> bool {
+        self.lent.sheet.is_empty() || (self.call.takes_path() && self.lent.path.is_empty())
+    }
+}
+
 impl fmt::Display for Case {
     fn fmt(&self, f: &mut fmt::Formatter<'_>) -> fmt::Result {
-        let (call, n, words) = (&self.call, self.n, self.lent.sheet.len());
-        write!(f, "{call:?}, n {n}, {words} words, sheet: {}", self.kind)
+        let (call, n, words, path) = (&self.call, self.n, self.lent.sheet.len(), &self.lent.path);
+        write!(f, "{call:?}, n {n}, {words} words, sheet: {}", self.kind)?;
+        if self.call.takes_path() {
+            write!(f, ", path: {} bytes {path:?}", path.len())?;
+        }
+        Ok(())
     }
 }
 
@@ -141,11 +189,11 @@ impl fmt::Display for Mismatch {
         writeln!(f, "  wanted:  {}", answer(&self.wanted))?;
         writeln!(f, "  library: {}", answer(&self.library))?;
         match &self.difference {
-            None => write!(f, "  every word and guard is the same"),
+            None => write!(f, "  every word, byte and guard is the same"),
             Some(d) => write!(
                 f,
-                "  first difference: word {}, wanted {:#x}, library {:#x}",
-                d.place, d.wanted, d.library
+                "  first difference: {} {}, wanted {:#x}, library {:#x}",
+                d.of, d.place, d.wanted, d.library
             ),
         }
     }

@@ -5,15 +5,19 @@ use crate::cases;
 use crate::compare::{compare, Case};
 use crate::faulty_edits;
 use crate::faulty_models::{self, ANY};
+use crate::faulty_paths;
+use crate::faulty_questions;
 use crate::library::{by_c, Lent, Library, Way, BY_C, BY_WRAPPER};
+use crate::listing::LIST;
 use crate::lists::{self, BOOK, START};
 use crate::model;
 use crate::rng::Rng;
 use lugloquat::sys::Answer;
+use std::ops::BitXorAssign;
 use std::slice;
 
 /// A fault that shows in none of so many rounds goes unnoticed.
-const LIMIT: u64 = 40_000;
+const LIMIT: u64 = 100_000;
 
 /// What the faults came to.
 pub struct Caught {
@@ -41,7 +45,13 @@ impl Trial {
 
 /// The faults of the model, by the call on which they show.
 fn of_models() -> impl Iterator<Item = (&'static str, &'static str, Model)> {
-    let all = faulty_models::FAULTS.iter().chain(faulty_edits::FAULTS);
+    let all = [
+        faulty_models::FAULTS,
+        faulty_edits::FAULTS,
+        faulty_questions::FAULTS,
+        faulty_paths::FAULTS,
+    ];
+    let all = all.into_iter().flatten();
     all.flat_map(|&(call, faults)| faults.iter().map(move |&(fault, model)| (call, fault, model)))
 }
 
@@ -98,8 +108,8 @@ fn trials() -> Vec<Trial> {
     trials
 }
 
-/// Each library makes the right call and besides does what its name says. The words around the sheet are guards, in the same
-/// allocation as the sheet, so that writing them is allowed here.
+/// Each library makes the right call and besides does what its name says. What stands around a buffer are guards, in the same
+/// allocation as the buffer, so that writing them is allowed here.
 const LIBRARIES: &[(&str, Library)] = &[
     ("writes the word before the sheet", |n, call, lent| unsafe {
         changing(n, call, lent, |_| Some(lent.sheet.wrapping_sub(1)))
@@ -111,19 +121,42 @@ const LIBRARIES: &[(&str, Library)] = &[
         changing(n, call, lent, |answer| last_word(lent).filter(|_| answer.number != 0))
     }),
     ("writes the last word when it should only read", |n, call, lent| unsafe {
-        let reads = matches!(call, Call::Validate | Call::PathCount { .. });
+        let reads = call.only_reads_sheet();
         changing(n, call, lent, |_| last_word(lent).filter(|_| reads))
+    }),
+    ("writes the byte before the path", |n, call, lent| unsafe {
+        changing(n, call, lent, |_| Some(lent.path.wrapping_sub(1)))
+    }),
+    ("writes the byte after the path", |n, call, lent| unsafe {
+        changing(n, call, lent, |_| Some(lent.path.wrapping_add(lent.path_bytes)))
+    }),
+    ("writes the last byte when it refuses", |n, call, lent| unsafe {
+        changing(n, call, lent, |answer| last_byte(lent).filter(|_| answer.number != 0))
+    }),
+    ("writes the last byte when it should only read", |n, call, lent| unsafe {
+        let reads = matches!(call, Call::Rank);
+        changing(n, call, lent, |_| last_byte(lent).filter(|_| reads))
+    }),
+    ("writes the byte after a path found", |n, call, lent| unsafe {
+        let finds = matches!(call, Call::Unrank { .. });
+        changing(n, call, lent, |answer| {
+            let rest = finds && answer.number == 0 && (answer.value as usize) < lent.path_bytes;
+            rest.then(|| lent.path.wrapping_add(answer.value as usize))
+        })
     }),
 ];
 
-/// Makes the right call, then changes the word, if any, that is named for its answer.
+/// Makes the right call, then changes the word or byte, if any, that is named for its answer.
 ///
 /// # Safety
-/// As for [`Library`]; the word named may be changed.
-unsafe fn changing(n: usize, call: &Call, lent: Lent, word: impl Fn(&Answer) -> Option<*mut u64>) -> Answer {
+/// As for [`Library`]; the word or byte named may be changed.
+unsafe fn changing<T>(n: usize, call: &Call, lent: Lent, place: impl Fn(&Answer) -> Option<*mut T>) -> Answer
+where
+    T: BitXorAssign + From<u8>,
+{
     let answer = by_c(n, call, lent);
-    if let Some(word) = word(&answer) {
-        *word ^= 1;
+    if let Some(place) = place(&answer) {
+        *place ^= T::from(1);
     }
     answer
 }
@@ -132,19 +165,30 @@ fn last_word(lent: Lent) -> Option<*mut u64> {
     (lent.words > 0).then(|| lent.sheet.wrapping_add(lent.words - 1))
 }
 
-/// A fault that the model and the library have alike, and who has to notice it in a list of edits.
+fn last_byte(lent: Lent) -> Option<*mut u8> {
+    (lent.path_bytes > 0).then(|| lent.path.wrapping_add(lent.path_bytes - 1))
+}
+
+/// A fault that the model and the library have alike, who has to notice it, and in which cases.
 struct Alike {
     name: &'static str,
     by: &'static str,
+    cases: fn(&mut Rng, Model) -> Vec<Case>,
     model: Model,
     library: Library,
 }
 
+/// The questions about paths, for a fault of them.
+fn questions(rng: &mut Rng, _: Model) -> Vec<Case> {
+    vec![cases::reaches_without(rng), cases::unrank(rng), cases::rank(rng)]
+}
+
 macro_rules! alike {
-    ($($name:literal, $by:ident, $model:path;)*) => {
+    ($($name:literal, $by:ident, $cases:path, $model:path;)*) => {
         &[$(Alike {
             name: $name,
             by: $by,
+            cases: $cases,
             model: $model,
             library: |n, call, lent| unsafe { as_library($model, n, call, lent) },
         }),*]
@@ -152,14 +196,20 @@ macro_rules! alike {
 }
 
 const ALIKE: &[Alike] = alike! {
-    "the counts stay", BOOK, faulty_edits::counts_stay;
-    "everything is accepted and nothing changes", BOOK, faulty_edits::everything_is_accepted;
-    "everything is refused", BOOK, faulty_edits::everything_is_refused;
-    "a vertex that both masks have is let in", BOOK, faulty_edits::shared_vertex_is_let_in;
-    "F × T has insertion's sign", START, faulty_edits::with_insertions_sign;
+    "the counts stay", BOOK, lists::make, faulty_edits::counts_stay;
+    "everything is accepted and nothing changes", BOOK, lists::make, faulty_edits::everything_is_accepted;
+    "everything is refused", BOOK, lists::make, faulty_edits::everything_is_refused;
+    "a vertex that both masks have is let in", BOOK, lists::make, faulty_edits::shared_vertex_is_let_in;
+    "F × T has insertion's sign", START, lists::make, faulty_edits::with_insertions_sign;
+    "there is always a path without the edge", LIST, questions, faulty_questions::always_yes;
+    "the edge runs the other way", LIST, questions, faulty_questions::edge_turned;
+    "there is never a path of that number", LIST, questions, faulty_paths::never_such_a_path;
+    "the highest vertex is tried first", LIST, questions, faulty_paths::highest_first;
+    "the vertex gone to counts too", LIST, questions, faulty_paths::passing_the_next;
+    "the counts are those to the next vertex", LIST, questions, faulty_paths::counting_to_the_next;
 };
 
-/// Runs lists of edits until one of them fails where it is held to what is known without the model.
+/// Runs cases until one of them fails where it is held to what is known without the model.
 fn check_alike(seed: u64, fault: &Alike) -> Result<(), String> {
     let way = Way { library: fault.library, ..BY_C };
     let noticed = |case: &Case, rng: &mut Rng| {
@@ -168,13 +218,13 @@ fn check_alike(seed: u64, fault: &Alike) -> Result<(), String> {
     };
     for index in 0..LIMIT {
         let mut rng = Rng::of_round(seed, index);
-        let list = lists::make(&mut rng, fault.model);
-        if list.iter().any(|case| noticed(case, &mut rng)) {
+        let cases = (fault.cases)(&mut rng, fault.model);
+        if cases.iter().any(|case| noticed(case, &mut rng)) {
             return Ok(());
         }
     }
     let (name, by) = (fault.name, fault.by);
-    Err(format!("a fault of both went unnoticed by {by} in {LIMIT} lists: {name}"))
+    Err(format!("a fault of both went unnoticed by {by} in {LIMIT} rounds: {name}"))
 }
 
 /// The model in the library's place.
@@ -183,8 +233,10 @@ fn check_alike(seed: u64, fault: &Alike) -> Result<(), String> {
 /// As for [`Library`].
 unsafe fn as_library(model: Model, n: usize, call: &Call, lent: Lent) -> Answer {
     let words = slice::from_raw_parts_mut(lent.sheet, lent.words);
-    let mut copy = Buffers { sheet: words.to_vec() };
+    let bytes = slice::from_raw_parts_mut(lent.path, lent.path_bytes);
+    let mut copy = Buffers { sheet: words.to_vec(), path: bytes.to_vec() };
     let answer = model(n, call, &mut copy);
     words.copy_from_slice(&copy.sheet);
+    bytes.copy_from_slice(&copy.path);
     answer
 }

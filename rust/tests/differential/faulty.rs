@@ -31,13 +31,28 @@ pub fn when(
     answer
 }
 
+/// The right answer and path, and the right counts of a recount, for a changed sheet in place of the one lent.
+pub fn as_if(n: usize, call: &Call, lent: &mut Buffers, change: impl Fn(usize, &mut [u64])) -> Answer {
+    if model::check_sizes(n, &lent.sheet).is_err() {
+        return right(n, call, lent);
+    }
+    let mut seen = lent.clone();
+    change(n, &mut seen.sheet);
+    let answer = right(n, call, &mut seen);
+    if matches!(call, Call::Recount) && is_accepted(&answer) {
+        lent.sheet[n..].copy_from_slice(&seen.sheet[n..]);
+    }
+    lent.path = seen.path;
+    answer
+}
+
 pub fn is_valid(n: usize, lent: &Buffers) -> bool {
     right(n, &Call::Validate, &mut lent.clone()) == accepted(1)
 }
 
 /// The recounted sheet, if the recount is accepted.
 pub fn recounted(n: usize, sheet: &[u64]) -> Option<Vec<u64>> {
-    let mut lent = Buffers { sheet: sheet.to_vec() };
+    let mut lent = Buffers::of_sheet(sheet.to_vec());
     is_accepted(&right(n, &Call::Recount, &mut lent)).then_some(lent.sheet)
 }
 
@@ -50,4 +65,13 @@ pub fn recount(n: usize, sheet: &mut [u64]) {
 /// Clears the bits at n and above in the first n words, or in those there are.
 pub fn clear_stray_bits(n: usize, sheet: &mut [u64]) {
     (sheet.iter_mut().take(n)).for_each(|row| *row &= u64::MAX >> (64 - n));
+}
+
+/// Exchanges the count from i to j and that from j to i.
+pub fn transpose(n: usize, sheet: &mut [u64]) {
+    for i in 0..n {
+        for j in 0..i {
+            sheet.swap(model::count_index(n, i, j), model::count_index(n, j, i));
+        }
+    }
 }

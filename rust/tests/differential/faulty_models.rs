@@ -1,7 +1,7 @@
 //! Faulty models: each is the model with one small change, which the comparison with the library has to notice.
 
 use crate::call::{accepted, refused, Buffers, Call};
-use crate::faulty::{clear_stray_bits, is_accepted, is_valid, recount, recounted, right, when, Faults};
+use crate::faulty::{as_if, clear_stray_bits, is_accepted, is_valid, recount, recounted, right, transpose, when, Faults};
 use crate::graphs;
 use crate::model::{self, Counts, Graph};
 use crate::recurrence;
@@ -293,20 +293,6 @@ fn accept_if(told: bool, n: usize, call: &Call, lent: &mut Buffers) -> Answer {
     }
 }
 
-/// The right answer, and the right counts of a recount, for a changed sheet in place of the one lent.
-fn as_if(n: usize, call: &Call, lent: &mut Buffers, change: impl Fn(usize, &mut [u64])) -> Answer {
-    if model::check_sizes(n, &lent.sheet).is_err() {
-        return right(n, call, lent);
-    }
-    let mut seen = lent.clone();
-    change(n, &mut seen.sheet);
-    let answer = right(n, call, &mut seen);
-    if matches!(call, Call::Recount) && is_accepted(&answer) {
-        lent.sheet[n..].copy_from_slice(&seen.sheet[n..]);
-    }
-    answer
-}
-
 /// The right answer of path_count for other vertices.
 fn with_vertices(n: usize, call: &Call, lent: &mut Buffers, other: impl Fn(usize, usize) -> (usize, usize)) -> Answer {
     match *call {
@@ -339,14 +325,6 @@ fn keep_only(n: usize, sheet: &mut [u64], kept: impl Fn(usize, usize, u64) -> bo
             let at = model::count_index(n, i, j);
             let mask = if kept(i, j, other[at]) { mask } else { 0 };
             sheet[at] = sheet[at] & mask | other[at] & !mask;
-        }
-    }
-}
-
-fn transpose(n: usize, sheet: &mut [u64]) {
-    for i in 0..n {
-        for j in 0..i {
-            sheet.swap(model::count_index(n, i, j), model::count_index(n, j, i));
         }
     }
 }

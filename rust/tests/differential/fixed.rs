@@ -5,6 +5,7 @@ use crate::agreement;
 use crate::book::Book;
 use crate::call::{accepted, refused, Buffers, Call, Edges};
 use crate::compare::{compare, Case};
+use crate::fixed_questions;
 use crate::graphs;
 use crate::library::WAYS;
 use crate::model::{self, Graph};
@@ -14,12 +15,15 @@ use lugloquat::sys::Answer;
 
 /// What has been run so far.
 pub struct Fixed {
-    rng: Rng,
+    pub rng: Rng,
     pub cases: u64,
     pub calls: u64,
 }
 
-type Done = Result<(), String>;
+pub type Done = Result<(), String>;
+
+/// The kind of sheet of these cases.
+pub const KIND: &str = "a fixed case";
 
 /// Runs them all.
 pub fn check(seed: u64) -> Result<Fixed, String> {
@@ -33,26 +37,29 @@ pub fn check(seed: u64) -> Result<Fixed, String> {
     fixed.self_loop_in_both_masks()?;
     fixed.every_small_graph()?;
     fixed.every_small_edit()?;
+    fixed_questions::check(&mut fixed)?;
     Ok(fixed)
 }
 
 impl Fixed {
-    /// Runs the call on the model and on the library. Both must give the answer wanted and the same words, which the sheet then
-    /// has.
-    fn step(&mut self, n: usize, call: Call, sheet: &mut Vec<u64>, wanted: Answer) -> Done {
-        let lent = Buffers { sheet: sheet.clone() };
-        let kind = "a fixed case";
-        let known = None;
-        let case = Case { n, call, lent, kind, known };
-        let compared = compare(&case, model::answer, WAYS, &mut self.rng).map_err(|mismatch| format!("{case}\n{mismatch}"))?;
+    /// Runs the case on the model and on the library. Both must give the answer wanted and leave the same, which is given back.
+    pub fn run(&mut self, case: &Case, wanted: Answer) -> Result<Buffers, String> {
+        let compared = compare(case, model::answer, WAYS, &mut self.rng).map_err(|mismatch| format!("{case}\n{mismatch}"))?;
         self.cases += 1;
         self.calls += compared.calls;
-        *sheet = compared.after.sheet;
         if compared.answer == wanted {
-            Ok(())
+            Ok(compared.after)
         } else {
             Err(format!("{case}\n  wanted {wanted:?}, got {:?}", compared.answer))
         }
+    }
+
+    /// Runs a call that takes no path. The sheet then has the words that it leaves.
+    fn step(&mut self, n: usize, call: Call, sheet: &mut Vec<u64>, wanted: Answer) -> Done {
+        let lent = Buffers::of_sheet(sheet.clone());
+        let case = Case { n, call, lent, kind: KIND, known: None };
+        *sheet = self.run(&case, wanted)?.sheet;
+        Ok(())
     }
 
     fn one_vertex(&mut self) -> Done {
@@ -72,6 +79,9 @@ impl Fixed {
             Call::Insert(Edges::at(0, 0, 0)),
             Call::Delete(Edges::at(0, 0, 0)),
             Call::PathCount { from: 0, to: 0 },
+            Call::ReachesWithout { from: 0, to: 0, edge_from: 0, edge_to: 0 },
+            Call::Unrank { from: 0, to: 0, k: 0 },
+            Call::Rank,
             Call::Recount,
             Call::Validate,
         ];

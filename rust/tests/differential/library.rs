@@ -4,14 +4,16 @@ use crate::call::{Call, Edges};
 use lugloquat::sys::{self, Answer};
 use std::{ptr, slice};
 
-/// What is lent to a call: where the words stand, and how many there are.
+/// What is lent to a call: where the words and the bytes stand, and how many there are.
 #[derive(Clone, Copy)]
 pub struct Lent {
     pub sheet: *mut u64,
     pub words: usize,
+    pub path: *mut u8,
+    pub path_bytes: usize,
 }
 
-/// A function that makes a call. Whoever calls it vouches that the words stand where `Lent` says.
+/// A function that makes a call. Whoever calls it vouches that the words and the bytes stand where `Lent` says.
 pub type Library = unsafe fn(usize, &Call, Lent) -> Answer;
 
 /// One of the ways into the library.
@@ -19,33 +21,34 @@ pub type Library = unsafe fn(usize, &Call, Lent) -> Answer;
 pub struct Way {
     pub name: &'static str,
     pub library: Library,
-    /// Whether it is for sheets of no words alone.
-    pub only_without_words: bool,
+    /// Whether it is only for calls that are lent a buffer of length 0.
+    pub only_with_empty: bool,
 }
 
 pub const BY_C: Way = Way {
     name: "the C declarations",
     library: by_c,
-    only_without_words: false,
+    only_with_empty: false,
 };
 
 pub const BY_WRAPPER: Way = Way {
     name: "the safe wrapper",
     library: by_wrapper,
-    only_without_words: false,
+    only_with_empty: false,
 };
 
 pub const BY_C_WITH_NULL: Way = Way {
-    name: "the C declarations, NULL for no words",
+    name: "the C declarations, NULL for an empty buffer",
     library: by_c_with_null,
-    only_without_words: true,
+    only_with_empty: true,
 };
 
 pub const WAYS: &[Way] = &[BY_C, BY_WRAPPER, BY_C_WITH_NULL];
 
 /// # Safety
 /// As for [`Library`].
-pub unsafe fn by_c(n: usize, call: &Call, Lent { sheet, words }: Lent) -> Answer {
+pub unsafe fn by_c(n: usize, call: &Call, lent: Lent) -> Answer {
+    let Lent { sheet, words, path, path_bytes } = lent;
     match *call {
         Call::Empty => sys::lugloquat_empty(n, sheet, words),
         Call::Insert(Edges::One { from, to }) => sys::lugloquat_insert_edge(n, sheet, words, from, to),
@@ -57,19 +60,26 @@ pub unsafe fn by_c(n: usize, call: &Call, Lent { sheet, words }: Lent) -> Answer
             sys::lugloquat_delete_edges_at(n, sheet, words, v, predecessors, successors)
         }
         Call::PathCount { from, to } => sys::lugloquat_path_count(n, sheet, words, from, to),
+        Call::ReachesWithout { from, to, edge_from, edge_to } => {
+            sys::lugloquat_reaches_without(n, sheet, words, from, to, edge_from, edge_to)
+        }
+        Call::Unrank { from, to, k } => sys::lugloquat_unrank(n, sheet, words, from, to, k, path, path_bytes),
+        Call::Rank => sys::lugloquat_rank(n, sheet, words, path, path_bytes),
         Call::Recount => sys::lugloquat_recount(n, sheet, words),
         Call::Validate => sys::lugloquat_validate(n, sheet, words),
     }
 }
 
 unsafe fn by_c_with_null(n: usize, call: &Call, lent: Lent) -> Answer {
-    let sheet = ptr::null_mut();
-    by_c(n, call, Lent { sheet, ..lent })
+    let sheet = if lent.words == 0 { ptr::null_mut() } else { lent.sheet };
+    let path = if lent.path_bytes == 0 { ptr::null_mut() } else { lent.path };
+    by_c(n, call, Lent { sheet, path, ..lent })
 }
 
 /// The wrapper's result, written as an answer: it shows no place when accepted and no value when refused.
 unsafe fn by_wrapper(n: usize, call: &Call, lent: Lent) -> Answer {
     let sheet = slice::from_raw_parts_mut(lent.sheet, lent.words);
+    let path = slice::from_raw_parts_mut(lent.path, lent.path_bytes);
     let result = match *call {
         Call::Empty => lugloquat::empty(n, sheet),
         Call::Insert(Edges::One { from, to }) => lugloquat::insert_edge(n, sheet, from, to),
@@ -81,6 +91,11 @@ unsafe fn by_wrapper(n: usize, call: &Call, lent: Lent) -> Answer {
             lugloquat::delete_edges_at(n, sheet, v, predecessors, successors)
         }
         Call::PathCount { from, to } => lugloquat::path_count(n, sheet, from, to),
+        Call::ReachesWithout { from, to, edge_from, edge_to } => {
+            lugloquat::reaches_without(n, sheet, from, to, edge_from, edge_to)
+        }
+        Call::Unrank { from, to, k } => lugloquat::unrank(n, sheet, from, to, k, path),
+        Call::Rank => lugloquat::rank(n, sheet, path),
         Call::Recount => lugloquat::recount(n, sheet),
         Call::Validate => lugloquat::validate(n, sheet),
     };

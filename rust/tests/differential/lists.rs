@@ -62,14 +62,14 @@ pub fn make(rng: &mut Rng, model: Model) -> Vec<Case> {
 impl List {
     /// The model's answer, and what it leaves.
     fn answered(&self, n: usize, call: &Call) -> (Answer, Buffers) {
-        let mut after = Buffers { sheet: self.sheet.clone() };
+        let mut after = Buffers::of_sheet(self.sheet.clone());
         ((self.model)(n, call, &mut after), after)
     }
 
     /// Puts an edit at the end of the list.
     fn push(&mut self, n: usize, call: Call) -> Answer {
         let (answer, after) = self.answered(n, &call);
-        let lent = Buffers { sheet: self.sheet.clone() };
+        let lent = Buffers::of_sheet(self.sheet.clone());
         let known = self.book.as_mut().map(|book| {
             let answer = book.answer(n, &call);
             let after = if answer.number == 0 {
@@ -77,7 +77,7 @@ impl List {
             } else {
                 lent.sheet.clone()
             };
-            Wanted { by: BOOK, answer, after: Buffers { sheet: after } }
+            Wanted { by: BOOK, answer, after: Buffers::of_sheet(after) }
         });
         let kind = self.kind;
         self.cases.push(Case { n, call, lent, kind, known });
@@ -173,7 +173,7 @@ impl List {
             case.known = Some(Wanted {
                 by: START,
                 answer: accepted(model::set_bits(self.n, &start)),
-                after: Buffers { sheet: start },
+                after: Buffers::of_sheet(start),
             });
         }
     }

@@ -8,6 +8,7 @@
 
 mod agreement;
 mod arguments;
+mod asked;
 mod book;
 mod call;
 mod cases;
@@ -17,11 +18,16 @@ mod faults;
 mod faulty;
 mod faulty_edits;
 mod faulty_models;
+mod faulty_paths;
+mod faulty_questions;
 mod fixed;
+mod fixed_questions;
 mod graphs;
 mod library;
+mod listing;
 mod lists;
 mod model;
+mod questions;
 mod recurrence;
 mod rng;
 mod sheets;
@@ -32,7 +38,7 @@ use std::{env, process::ExitCode, time::Instant};
 use tally::Tally;
 
 const SEED: u64 = 20_260_801;
-const CALLS: u64 = 600_000;
+const CALLS: u64 = 1_000_000;
 const _: () = assert!(CALLS >= 200_000, "a run of the default length makes at least so many calls");
 
 fn main() -> ExitCode {

@@ -5,6 +5,7 @@
 
 use crate::call::{accepted, refused, Buffers, Call};
 use crate::edits::{self, DELETION, INSERTION};
+use crate::questions::{self, PASSING, WALK};
 use lugloquat::sys::Answer;
 
 /// `graph[i][j]` is whether an edge runs from i to j.
@@ -26,6 +27,11 @@ pub fn answer(n: usize, call: &Call, lent: &mut Buffers) -> Answer {
         Call::Insert(edges) => edits::edit(n, &mut lent.sheet, &edges, &INSERTION),
         Call::Delete(edges) => edits::edit(n, &mut lent.sheet, &edges, &DELETION),
         Call::PathCount { from, to } => path_count(n, &lent.sheet, from, to),
+        Call::ReachesWithout { from, to, edge_from, edge_to } => {
+            questions::reaches_without(n, &lent.sheet, (from, to), (edge_from, edge_to))
+        }
+        Call::Unrank { from, to, k } => questions::unrank(n, &lent.sheet, (from, to), k, &mut lent.path, &WALK),
+        Call::Rank => questions::rank(n, &lent.sheet, &lent.path, &PASSING),
         Call::Recount => recount(n, &mut lent.sheet),
         Call::Validate => validate(n, &lent.sheet),
     };
@@ -151,7 +157,7 @@ pub fn counts_of(graph: &Graph) -> Option<Counts> {
 
 /// Goes through the paths that begin with the given one, itself the first, as long as `visit` says to go on. Says whether it
 /// still does at the end.
-fn each_path_from(graph: &Graph, path: &mut Vec<usize>, visit: &mut dyn FnMut(&[usize]) -> bool) -> bool {
+pub fn each_path_from(graph: &Graph, path: &mut Vec<usize>, visit: &mut dyn FnMut(&[usize]) -> bool) -> bool {
     if !visit(path) {
         return false;
     }

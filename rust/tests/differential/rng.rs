@@ -25,6 +25,10 @@ impl Rng {
         (0..count).map(|_| self.word()).collect()
     }
 
+    pub fn bytes(&mut self, count: usize) -> Vec<u8> {
+        (0..count).map(|_| self.word() as u8).collect()
+    }
+
     /// A number below the bound, which is not 0.
     pub fn below(&mut self, bound: usize) -> usize {
         (self.word() % bound as u64) as usize

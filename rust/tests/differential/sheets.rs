@@ -35,6 +35,8 @@ const KINDS: &[(usize, (&str, Maker))] = &[
     (2, ("the core, the recurrence holds", recurrence_on_core)),
     (2, ("a fan closed, the recurrence holds", recurrence_on_fan)),
     (5, ("a random graph, small counts", random_graph)),
+    (5, ("a way round and back", way_round)),
+    (5, ("a way on from the end and back", way_on)),
     (3, ("one word flipped", word_flipped)),
     (6, ("random rows, most counts 0", most_counts_0)),
     (4, ("random words", random_words)),
@@ -281,6 +283,51 @@ fn random_graph(rng: &mut Rng, n: usize) -> Option<Vec<u64>> {
     let graph = graphs::random(rng, n, self_loops);
     let counts = (0..n).map(|_| (0..n).map(|_| rng.word() % 4).collect()).collect();
     Some(sheet_of(&graph, &counts))
+}
+
+/// A chain and, besides, an edge from its first vertex to one more and an edge back. The count from the first vertex to the end
+/// of the chain is 2, that from every other is 1, and path number 1 goes round and then along the chain: through n + 1 vertices,
+/// through n if one vertex is left out of it, or fewer.
+fn way_round(rng: &mut Rng, n: usize) -> Option<Vec<u64>> {
+    let left_out = rng.pick(&[0, 0, 1, 2]);
+    if n < 4 + left_out {
+        return None;
+    }
+    let (round, end) = (n - 1, n - 2 - left_out);
+    let graph = graphs::of_rule(n, |i, j| {
+        (i < end && j == i + 1) || (i == 0 && j == round) || (i == round && j == 0)
+    });
+    let mut counts = model::identity(n);
+    (0..end).chain([round]).for_each(|i| counts[i][end] = 1);
+    counts[0][end] = 2;
+    Some(shuffled_but(rng, &graph, &counts, (1, round)))
+}
+
+/// An edge from vertex 0 to vertex 1, edges from this to two more, and an edge back to it from the second of these. The counts
+/// from 0 and from 1 to 1 are 2, so that path number 1 comes to its end with a number left, which the ways on would take off.
+fn way_on(rng: &mut Rng, n: usize) -> Option<Vec<u64>> {
+    if n < 4 {
+        return None;
+    }
+    let graph = graphs::of_rule(n, |i, j| [(0, 1), (1, 2), (1, 3), (3, 1)].contains(&(i, j)));
+    let mut counts = model::identity(n);
+    (0..4).for_each(|i| counts[i][1] = if i < 2 { 2 } else { 1 });
+    Some(shuffled_but(rng, &graph, &counts, (2, 3)))
+}
+
+/// The sheet with its vertices renamed, but of two vertices the first still comes before the second.
+fn shuffled_but(rng: &mut Rng, graph: &Graph, counts: &Counts, (first, second): (usize, usize)) -> Vec<u64> {
+    let mut names = rng.shuffled(graph.len());
+    if names[first] > names[second] {
+        names.swap(first, second);
+    }
+    let mut renamed = counts.clone();
+    for (i, row) in counts.iter().enumerate() {
+        for (j, &count) in row.iter().enumerate() {
+            renamed[names[i]][names[j]] = count;
+        }
+    }
+    sheet_of(&graphs::renamed(graph, &names), &renamed)
 }
 
 fn word_flipped(rng: &mut Rng, n: usize) -> Option<Vec<u64>> {

@@ -2,12 +2,17 @@
 
 use crate::call::{Call, Outcome, ALLOWED};
 use crate::compare::{Case, Compared};
+use crate::listing::LIST;
 use crate::lists::{BOOK, START};
+use crate::questions;
 use crate::sheets;
 use std::collections::BTreeMap;
 
 /// An outcome that document 01 allows comes up at least so often in a run of the default length.
 const LEAST: u64 = 200;
+
+/// The questions about paths.
+const QUESTIONS: [&str; 3] = ["reaches_without", "unrank", "rank"];
 
 pub struct Tally {
     pub rounds: u64,
@@ -17,6 +22,11 @@ pub struct Tally {
     outcomes: Vec<u64>,
     recounts: [u64; 65],
     edits_accepted: [u64; 65],
+    questions_accepted: [u64; 65],
+    /// The cases of each question about paths, and of these the ones held to the list of paths.
+    questions: BTreeMap<&'static str, (u64, u64)>,
+    /// The grounds of 9 and 12.
+    grounds: BTreeMap<&'static str, u64>,
     /// The cases held to the book, and the lists back at a start that is valid and at one that is not.
     by_book: u64,
     back_at_valid: u64,
@@ -33,6 +43,9 @@ impl Tally {
             outcomes: vec![0; ALLOWED.len()],
             recounts: [0; 65],
             edits_accepted: [0; 65],
+            questions_accepted: [0; 65],
+            questions: QUESTIONS.map(|call| (call, (0, 0))).into(),
+            grounds: questions::GROUNDS.map(|ground| (ground, 0)).into(),
             by_book: 0,
             back_at_valid: 0,
             back_at_other: 0,
@@ -56,8 +69,16 @@ impl Tally {
             match case.call {
                 Call::Recount => self.recounts[case.n] += 1,
                 Call::Insert(_) | Call::Delete(_) => self.edits_accepted[case.n] += 1,
+                _ if case.call.is_question() => self.questions_accepted[case.n] += 1,
                 _ => (),
             }
+        }
+        if let Some((cases, by_list)) = self.questions.get_mut(outcome.call) {
+            *cases += 1;
+            *by_list += u64::from(case.known.as_ref().is_some_and(|known| known.by == LIST));
+        }
+        if let Some(ground) = questions::ground(case.n, &case.call, &case.lent, outcome.number) {
+            *self.grounds.entry(ground).or_default() += 1;
         }
         match case.known.as_ref().map(|known| known.by) {
             Some(BOOK) => self.by_book += 1,
@@ -74,7 +95,7 @@ impl Tally {
             let said = said.map_or(String::new(), |value| value.to_string());
             println!("{call:<17}{number:>8}{said:>8}{times:>10}");
         }
-        for (what, times) in [("recounts", &self.recounts), ("edits", &self.edits_accepted)] {
+        for (what, times) in self.accepted() {
             let (rarest, times) = (1..=64)
                 .map(|n| (n, times[n]))
                 .min_by_key(|&(_, times)| times)
@@ -86,11 +107,26 @@ impl Tally {
             "cases for each of {} kinds of sheet: at least {times} ({kind})",
             self.kinds.len()
         );
+        for (call, (cases, by_list)) in &self.questions {
+            println!("{call}: {cases} cases, {by_list} of them held to the list of paths");
+        }
+        for (ground, times) in &self.grounds {
+            println!("refused, {ground}: {times}");
+        }
         println!("edits held to the book: {}", self.by_book);
         println!(
             "lists back at their start: {} on valid sheets, {} on others",
             self.back_at_valid, self.back_at_other
         );
+    }
+
+    /// What was accepted, for each n.
+    fn accepted(&self) -> [(&'static str, &[u64; 65]); 3] {
+        [
+            ("recounts", &self.recounts),
+            ("edits", &self.edits_accepted),
+            ("questions about paths", &self.questions_accepted),
+        ]
     }
 
     /// Whether everything came up that has to.
@@ -100,14 +136,19 @@ impl Tally {
                 return Err(format!("{outcome:?} came up {times} times, fewer than {LEAST}"));
             }
         }
-        if let Some(n) = (1..=64).find(|&n| self.recounts[n] == 0 || self.edits_accepted[n] == 0) {
-            return Err(format!("no recount or no edit of {n} vertices was accepted"));
+        for (what, times) in self.accepted() {
+            if let Some(n) = (1..=64).find(|&n| times[n] == 0) {
+                return Err(format!("of {n} vertices no {what} were accepted"));
+            }
         }
-        for (what, times) in [
+        let lists = [
             ("edits held to the book", self.by_book),
             ("lists back at a valid start", self.back_at_valid),
             ("lists back at another start", self.back_at_other),
-        ] {
+        ];
+        let grounds = self.grounds.iter().map(|(&ground, &times)| (ground, times));
+        let by_list = self.questions.iter().map(|(&call, &(_, by_list))| (call, by_list));
+        for (what, times) in lists.into_iter().chain(grounds).chain(by_list) {
             if times < LEAST {
                 return Err(format!("{what}: {times}, fewer than {LEAST}"));
             }

@@ -6,13 +6,10 @@ use Rattle.cases.proofs.lines.words.Statement.{statement}
 use Rattle.cases.proofs.lines.words.Tie as tie
 
 abbrev Inv-loop : tie.InvT-loop
-Inv-loop buffer k₀ t4 k = k ≤ length buffer
+Inv-loop label buffer k₀ t4 k = k ≤ length buffer
 
 abbrev μ-loop : tie.MeasureT-loop
-μ-loop buffer k₀ t4 k = length buffer - k
-
-slice-aggregate-text : tie.Need-slice-aggregate-text Inv-loop μ-loop
-slice-aggregate-text c = search needs
+μ-loop label buffer k₀ t4 k = length buffer - k
 
 text-requires : tie.Need-text-requires Inv-loop μ-loop
 text-requires c κs = search needs
@@ -41,9 +38,6 @@ loop-less c = search needs
 loop-again : tie.Need-loop-again Inv-loop μ-loop
 loop-again c = search needs
 
-end-requires : tie.Need-end-requires Inv-loop μ-loop
-end-requires c κs = search needs
-
 returns : tie.Need-returns Inv-loop μ-loop
 returns c = search needs
 
@@ -53,7 +47,6 @@ words-spec =
     (tie.spec
     Inv-loop
     μ-loop
-    slice-aggregate-text
     text-requires
     loop-holds
     slice-aggregate-number
@@ -63,5 +56,4 @@ words-spec =
     add-k
     loop-less
     loop-again
-    end-requires
     returns)

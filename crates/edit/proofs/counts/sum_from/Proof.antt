@@ -3,13 +3,14 @@
 use native.Mathlib.Omega.{arith}
 use borrow.Author.Needs.{needs}
 use borrow.Author.Tests.{eqb-true, eqb-false}
-use Rattle.word.proofs.CountLaws.{lowest-lt, lowest-cleared-lt}
-use Rattle.edit.proofs.EditedCounts.{SummingFrom, from-start, from-more, from-done}
+use Rattle.word.proofs.CountLaws.{lowest-lt, lowest-cleared-lt, Adding, adding-start}
+use Rattle.sheet.specs.Layout.{countAt}
+use Rattle.edit.proofs.EditedCounts.{from-more, from-done}
 use Rattle.edit.proofs.counts.sum_from.Statement.{statement}
 use Rattle.edit.proofs.counts.sum_from.Tie as tie
 
 abbrev Inv-loop : tie.InvT-loop
-Inv-loop n sheet i mask base sum₀ rest₀ sum rest = SummingFrom n sheet i mask rest sum
+Inv-loop n sheet i mask base sum₀ rest₀ sum rest = Adding n mask rest (countAt n sheet i) sum
 
 abbrev μ-loop : tie.MeasureT-loop
 μ-loop n sheet i mask base sum₀ rest₀ sum rest = rest
@@ -18,7 +19,7 @@ row-base-requires : tie.Need-row-base-requires Inv-loop μ-loop
 row-base-requires c κs = omega arith
 
 loop-holds : tie.Need-loop-holds Inv-loop μ-loop
-loop-holds c = from-start _ _ _ _ (omega arith)
+loop-holds c = adding-start _ _ _ (omega arith)
 
 lowest-bit-requires : tie.Need-lowest-bit-requires Inv-loop μ-loop
 lowest-bit-requires c κs = omega (arith, eqb-false)
@@ -45,7 +46,9 @@ loop-again : tie.Need-loop-again Inv-loop μ-loop
 loop-again c = search from-more
 
 returns : tie.Need-returns Inv-loop μ-loop
-returns c = from-done _ _ _ _ _ _ (c .before .loop .inv) (omega (arith, eqb-true))
+returns c =
+    let a = c .before .before .before .before .args in
+    from-done (a .n) (a .sheet .now) (a .i) (a .mask) _ _ (c .before .loop .inv) (omega (arith, eqb-true))
 
 pub sum-from-spec : {M : Type 1} → statement M
 sum-from-spec =

@@ -20,7 +20,7 @@ lowest-bit-requires : tie.Need-lowest-bit-requires Inv-loop μ-loop
 lowest-bit-requires c κs = omega (arith, eqb-false)
 
 row-base-requires : tie.Need-row-base-requires Inv-loop μ-loop
-row-base-requires c κs = (omega arith, lowest-lt _ _ _ (c .lowest-bit .ensures) (c .before .before .loop .inv .below))
+row-base-requires c κs = (omega arith, lowest-lt _ _ _ (c .lowest-bit .ensures) (c .before .before .loop .inv .adding 0 (omega arith) .below))
 
 add-row-requires : tie.Need-add-row-requires Inv-loop μ-loop
 add-row-requires c κs = omega arith

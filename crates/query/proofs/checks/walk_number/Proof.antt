@@ -1,0 +1,31 @@
+-- `query::checks::walk_number` meets its contract: each way out is a law of CheckLaws. Assumes nothing.
+use borrow.Author.Needs.{needs}
+use Rattle.sheet.proofs.ShapeLaws.{vertices-ready}
+use Rattle.query.proofs.CheckLaws.{walk-ends, walk-buffer, walk-beyond, walk-good}
+use Rattle.query.proofs.checks.walk_number.Statement.{statement}
+use Rattle.query.proofs.checks.walk_number.Tie as tie
+
+returns : tie.Need-returns
+returns c = search walk-ends
+
+returns-2 : tie.Need-returns-2
+returns-2 c = search walk-buffer
+
+returns-3 : tie.Need-returns-3
+returns-3 c = search walk-beyond
+
+returns-4 : tie.Need-returns-4
+returns-4 c = search walk-good
+
+vertices-number-requires : tie.Need-vertices-number-requires
+vertices-number-requires c κs = search needs
+
+count-at-requires : tie.Need-count-at-requires
+count-at-requires c κs =
+    let a = c .before .before .before .before .args in
+    vertices-ready (a .n) (a .sheet .now) (a .from) (a .to) _ (c .before .before .vertices-number .ensures) (c .before .if1 .left)
+
+pub walk-number-spec : {M : Type 1} → statement M
+walk-number-spec =
+    tie.close
+    (tie.spec vertices-number-requires returns returns-2 count-at-requires returns-3 returns-4)

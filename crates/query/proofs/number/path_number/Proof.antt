@@ -1,0 +1,91 @@
+-- `query::number::path_number` meets its contract: the sum so far and the counts passed over from the byte reached on make the number.
+-- Assumes nothing.
+use mathlib.Core.Path.{refl}
+use Prim.Native.Nat.{_-_}
+use native.Mathlib.Omega.{arith}
+use borrow.Author.Needs.{needs}
+use lib.ListN.{length}
+use Rattle.query.proofs.NumberLaws.{Numbering, numbering-start, numbering-more, numbering-done}
+use Rattle.query.proofs.number.path_number.Statement.{statement}
+use Rattle.query.proofs.number.path_number.Tie as tie
+
+abbrev Inv-loop : tie.InvT-loop
+Inv-loop n sheet path end sum₀ t₀ sum t = Numbering n sheet end path t sum
+
+abbrev μ-loop : tie.MeasureT-loop
+μ-loop n sheet path end sum₀ t₀ sum t = length path - t
+
+loop-holds : tie.Need-loop-holds Inv-loop μ-loop
+loop-holds c = numbering-start _ _ _ _ (omega arith)
+
+loop-again : tie.Need-loop-again Inv-loop μ-loop
+loop-again c =
+    let at = c .before .before .before .before .before in
+    let a = at .before .before .before .before .args in
+    numbering-more (a .n) (a .sheet .now) _ (a .path .now) (at .loop .t) _ _ _ (at .loop .inv) (omega arith) (c .before .pass-over .ensures) (c .wrapping-add .ensures)
+
+returns : tie.Need-returns Inv-loop μ-loop
+returns c =
+    let a = c .before .before .before .before .before .args in
+    numbering-done (a .n) (a .sheet .now) _ (a .path .now) (c .before .loop .t) _ (c .before .loop .inv) (omega arith) refl
+
+sub-end : tie.Need-sub-end Inv-loop μ-loop
+sub-end c = omega arith
+
+shared-slice-read-end : tie.Need-shared-slice-read-end Inv-loop μ-loop
+shared-slice-read-end c = omega arith
+
+cast-end : tie.Need-cast-end Inv-loop μ-loop
+cast-end c = omega (arith, c .shared-slice-known3 .given (length (c .before .before .before .args .path .now) - 1))
+
+sub-pass-over : tie.Need-sub-pass-over Inv-loop μ-loop
+sub-pass-over c = omega (arith, c .before .loop .inv .low)
+
+shared-slice-read-pass-over : tie.Need-shared-slice-read-pass-over Inv-loop μ-loop
+shared-slice-read-pass-over c = omega (arith, c .before .before .loop .inv .low)
+
+cast-pass-over : tie.Need-cast-pass-over Inv-loop μ-loop
+cast-pass-over c = omega (arith, c .shared-slice-known4 .given (c .before .before .loop .t - 1))
+
+shared-slice-read-pass-over-2 : tie.Need-shared-slice-read-pass-over-2 Inv-loop μ-loop
+shared-slice-read-pass-over-2 c = omega arith
+
+cast-pass-over-2 : tie.Need-cast-pass-over-2 Inv-loop μ-loop
+cast-pass-over-2 c = omega (arith, c .shared-slice-known5 .given (c .before .before .before .loop .t))
+
+pass-over-requires : tie.Need-pass-over-requires Inv-loop μ-loop
+pass-over-requires c κs =
+    let start = c .before .before .before .before .before .before .before in
+    let at = c .before .before .before .loop .inv in
+    (start .pre .0, start .pre .1 _ (omega arith), start .pre .1 _ (omega (arith, at .low)), start .pre .1 _ (omega arith))
+
+wrapping-add-requires : tie.Need-wrapping-add-requires Inv-loop μ-loop
+wrapping-add-requires c κs = search needs
+
+add-t : tie.Need-add-t Inv-loop μ-loop
+add-t c = search needs
+
+loop-less : tie.Need-loop-less Inv-loop μ-loop
+loop-less c = omega arith
+
+pub path-number-spec : {M : Type 1} → statement M
+path-number-spec =
+    tie.close
+    (tie.spec
+    Inv-loop
+    μ-loop
+    sub-end
+    shared-slice-read-end
+    cast-end
+    loop-holds
+    sub-pass-over
+    shared-slice-read-pass-over
+    cast-pass-over
+    shared-slice-read-pass-over-2
+    cast-pass-over-2
+    pass-over-requires
+    wrapping-add-requires
+    add-t
+    loop-less
+    loop-again
+    returns)

@@ -1,0 +1,70 @@
+-- `query::unrank` meets its contract: each way out is a law of CallLaws. Assumes nothing.
+use mathlib.Core.Path.{refl}
+use native.Mathlib.Omega.{arith}
+use borrow.Author.Needs.{needs}
+use lib.ListN.{length}
+use Rattle.query.proofs.CheckLaws.{walk-ready}
+use Rattle.query.proofs.CallLaws.{unrank-stops, unrank-stops-kept, unrank-astray, unrank-astray-kept, unrank-arrived, unrank-arrived-bytes}
+use Rattle.query.proofs.unrank.Statement.{statement}
+use Rattle.query.proofs.unrank.Tie as tie
+
+returns : tie.Need-returns
+returns c = search (unrank-stops, unrank-stops-kept)
+
+returns-2 : tie.Need-returns-2
+returns-2 c = search (unrank-astray, unrank-astray-kept)
+
+returns-3 : tie.Need-returns-3
+returns-3 c =
+    let walk = c .before .before .before .before .before .before .before in
+    let a = walk .before .before .before .before .before .before .args in
+    let number = walk .before .before .before .walk-number .ensures in
+    let high = walk-ready (a .n) (a .sheet .now) (a .from) (a .to) (a .k) (length (a .path .now)) _ number (walk .before .before .if1 .left) .0 .high in (
+      unrank-arrived (a .n) (a .sheet .now) (a .from) (a .to) (a .k) (a .path .now) _ number (walk .before .before .if1 .left) _ _ (walk .walk-aside .ensures) (c .before .before .before .before .before .before .if2 .left)
+          high _ (c .accepted .ensures),
+      unrank-arrived-bytes (a .n) (a .sheet .now) (a .from) (a .to) (a .k) (a .path .now) _ number (walk .before .before .if1 .left) _ _ (walk .walk-aside .ensures) (c .before .before .before .before .before .before .if2 .left)
+          high _ (c .before .before .before .copy .ensures),
+    )
+
+walk-number-requires : tie.Need-walk-number-requires
+walk-number-requires c κs = search needs
+
+refused-requires : tie.Need-refused-requires
+refused-requires c κs = search needs
+
+walk-aside-requires : tie.Need-walk-aside-requires
+walk-aside-requires c κs =
+    let a = c .before .before .before .before .before .args in
+    let r = walk-ready (a .n) (a .sheet .now) (a .from) (a .to) (a .k) (length (a .path .now)) _ (c .before .before .walk-number .ensures) (c .before .if1 .left) in
+    (r .0, r .1, r .2, refl)
+
+refused-requires-2 : tie.Need-refused-requires-2
+refused-requires-2 c κs = search needs
+
+copy-requires : tie.Need-copy-requires
+copy-requires c κs =
+    let a = c .before .before .before .before .before .before .before .before .before .args in
+    let r = walk-ready (a .n) (a .sheet .now) (a .from) (a .to) (a .k) (length (a .path .now)) _ (c .before .before .before .before .before .before .walk-number .ensures) (c .before .before .before .before .before .if1 .left) in
+    let w = c .before .before .before .walk-aside .ensures in
+    (w .long, omega (arith, w .within, r .0 .high), omega (arith, w .within, r .3))
+
+accepted-requires : tie.Need-accepted-requires
+accepted-requires c κs = search needs
+
+same-length : tie.Need-same-length
+same-length c = search needs
+
+pub unrank-spec : {M : Type 1} → statement M
+unrank-spec =
+    tie.close
+    (tie.spec
+    walk-number-requires
+    refused-requires
+    returns
+    walk-aside-requires
+    refused-requires-2
+    returns-2
+    copy-requires
+    accepted-requires
+    same-length
+    returns-3)

@@ -1,0 +1,103 @@
+// The checks of the questions, in the order of document 01's table.
+ghost use mathlib.Core.Path.{_≡_};
+ghost use Prim.Native.Nat.{_<_};
+ghost use Rattle.word.specs.Bit.{hasBit};
+ghost use Rattle.sheet.specs.Layout.{Shape, rowAt};
+ghost use Rattle.query.specs.ReachesWithout.{reachesWithoutNumber};
+ghost use Rattle.query.specs.Rank.{someNoVertex, broken};
+ghost use Rattle.query.specs.Internal.{Vertices, beforeWalk};
+use sheet::Refusal;
+use sheet::checks;
+use sheet::layout;
+
+// Whether there is an edge from vertex i to vertex j.
+fn has_edge(n: usize, sheet: &[u64], i: usize, j: usize) -> bool
+    requires { ⌜ (Shape n (now sheet)) × (i < n) × (j < n) ⌝ }
+    ensures { λ r. ⌜ r ≡ hasBit (rowAt (now (sheet .entry)) i) j ⌝ }
+{
+    word::test_bit(sheet[i], j)
+}
+
+// The number by which a path without an edge is refused: 1, 2, 3, 7, or 0.
+pub(crate) fn without_number(
+    n: usize,
+    sheet: &[u64],
+    from: usize,
+    to: usize,
+    edge_from: usize,
+    edge_to: usize,
+) -> u64
+    ensures { λ r. ⌜ r ≡ reachesWithoutNumber n (now (sheet .entry)) from to «edge_from» «edge_to» ⌝ }
+{
+    let number = checks::vertices_number(n, sheet.len(), from, to);
+    if number != 0 {
+        return number;
+    }
+    let edge_number = checks::vertices_number(n, sheet.len(), edge_from, edge_to);
+    if edge_number != 0 {
+        return edge_number;
+    }
+    if !has_edge(n, sheet, edge_from, edge_to) {
+        return Refusal::ABSENT;
+    }
+    0
+}
+
+// The number by which a path by number is refused before it is walked: 1, 2, 3, 10, 11, or 0.
+pub(crate) fn walk_number(
+    n: usize,
+    sheet: &[u64],
+    from: usize,
+    to: usize,
+    k: u64,
+    bytes: usize,
+) -> u64
+    ensures { λ r. ⌜ r ≡ beforeWalk n (now (sheet .entry)) from to k bytes ⌝ }
+{
+    let number = checks::vertices_number(n, sheet.len(), from, to);
+    if number != 0 {
+        return number;
+    }
+    if bytes < n {
+        return Refusal::BUFFER;
+    }
+    if layout::count_at(n, sheet, from, to) <= k {
+        return Refusal::NO_SUCH_PATH;
+    }
+    0
+}
+
+// Whether some byte is n or more.
+pub(crate) fn has_no_vertex(n: usize, path: &[u8]) -> bool
+    ensures { λ r. ⌜ r ≡ someNoVertex n (now (path .entry)) ⌝ }
+{
+    let mut t = 0;
+    while t < path.len() {
+        if n <= path[t] as usize {
+            return true;
+        }
+        t += 1;
+    }
+    false
+}
+
+// Whether there are no vertices, more than n, or two neighbours without an edge.
+pub(crate) fn is_broken(n: usize, sheet: &[u64], path: &[u8]) -> bool
+    requires { ⌜ (Shape n (now sheet)) × (Vertices n (now path)) ⌝ }
+    ensures { λ r. ⌜ r ≡ broken n (now (sheet .entry)) (now (path .entry)) ⌝ }
+{
+    if path.len() == 0 {
+        return true;
+    }
+    if n < path.len() {
+        return true;
+    }
+    let mut t = 1;
+    while t < path.len() {
+        if !has_edge(n, sheet, path[t - 1] as usize, path[t] as usize) {
+            return true;
+        }
+        t += 1;
+    }
+    false
+}

@@ -1,0 +1,64 @@
+-- `recount::fill_counts` meets its contract: after k turns the counts from the first k vertices of the order are worked out.
+-- Assumes nothing.
+use Prim.Native.Nat.{_-_, _≤_}
+use native.Mathlib.Omega.{arith}
+use Rattle.recount.specs.Internal.{vertexAt}
+use Rattle.recount.proofs.RecountLaws.{Filled, filled-start, filled-vertex, filled-more, filled-all, filled-shape, filled-below}
+use Rattle.recount.proofs.fill_counts.Statement.{statement}
+use Rattle.recount.proofs.fill_counts.Tie as tie
+
+abbrev Inv-loop : tie.InvT-loop
+Inv-loop n sheet₀ order k₀ sheet k = (k ≤ n) × (Filled n sheet₀ (vertexAt order) k sheet)
+
+abbrev μ-loop : tie.MeasureT-loop
+μ-loop n sheet₀ order k₀ sheet k = n - k
+
+loop-holds : tie.Need-loop-holds Inv-loop μ-loop
+loop-holds c = let a = c .before in (omega arith, filled-start _ _ _ (a .pre .2) (a .pre .0))
+
+mul-fill-row : tie.Need-mul-fill-row Inv-loop μ-loop
+mul-fill-row c = omega arith
+
+element-copy-out-fill-row : tie.Need-element-copy-out-fill-row Inv-loop μ-loop
+element-copy-out-fill-row c = omega arith
+
+fill-row-requires : tie.Need-fill-row-requires Inv-loop μ-loop
+fill-row-requires c κs =
+    let a = c .before .before .before .before .before in
+    let l = c .before .before .before .loop in
+    let v = filled-vertex _ _ _ (a .pre .2) (a .pre .0) (l .k) (omega arith) in
+    (filled-shape _ _ _ (a .pre .2) (a .pre .0) _ _ (l .inv .1), v, filled-below _ _ _ (a .pre .2) (a .pre .0) _ _ (l .inv .1) (a .pre .1) _ v)
+
+add-k : tie.Need-add-k Inv-loop μ-loop
+add-k c = omega arith
+
+loop-less : tie.Need-loop-less Inv-loop μ-loop
+loop-less c = omega arith
+
+loop-again : tie.Need-loop-again Inv-loop μ-loop
+loop-again c =
+    let a = c .before .before .before .before .before .before .before .before in
+    let l = c .before .before .before .before .before .before .loop in
+    (omega arith, filled-more _ _ _ (a .pre .2) (a .pre .0) _ _ _ (omega arith) (l .inv .1) (c .before .before .fill-row .ensures))
+
+same-length : tie.Need-same-length Inv-loop μ-loop
+same-length c = c .before .loop .inv .1 .long
+
+returns : tie.Need-returns Inv-loop μ-loop
+returns c = let a = c .before .before .before in filled-all _ _ _ (a .pre .2) (a .pre .0) _ _ (c .before .loop .inv .1) (omega arith)
+
+pub fill-counts-spec : {M : Type 1} → statement M
+fill-counts-spec =
+    tie.close
+    (tie.spec
+    Inv-loop
+    μ-loop
+    loop-holds
+    mul-fill-row
+    element-copy-out-fill-row
+    fill-row-requires
+    add-k
+    loop-less
+    loop-again
+    same-length
+    returns)

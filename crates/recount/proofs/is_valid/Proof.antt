@@ -1,0 +1,36 @@
+-- `recount::is_valid` meets its contract: each way out is a law of ValidateLaws. Assumes nothing.
+use borrow.Author.Needs.{needs}
+use borrow.Author.Tests.{not-true, not-false}
+use Rattle.recount.proofs.StrayLaws.{rows-below}
+use Rattle.recount.proofs.ValidateLaws.{valid-stray, valid-cycle, valid-holds}
+use Rattle.recount.proofs.is_valid.Statement.{statement}
+use Rattle.recount.proofs.is_valid.Tie as tie
+
+has-stray-row-requires : tie.Need-has-stray-row-requires
+has-stray-row-requires c κs = search needs
+
+returns : tie.Need-returns
+returns c = search valid-stray
+
+find-order-requires : tie.Need-find-order-requires
+find-order-requires c κs = search rows-below
+
+returns-2 : tie.Need-returns-2
+returns-2 c = search (valid-cycle, not-true)
+
+rows-hold-requires : tie.Need-rows-hold-requires
+rows-hold-requires c κs = search rows-below
+
+returns-3 : tie.Need-returns-3
+returns-3 c = search (valid-holds, not-false)
+
+pub is-valid-spec : {M : Type 1} → statement M
+is-valid-spec =
+    tie.close
+    (tie.spec
+    has-stray-row-requires
+    returns
+    find-order-requires
+    returns-2
+    rows-hold-requires
+    returns-3)

@@ -1,0 +1,68 @@
+-- `recount::rows::same_row` meets its contract: after j turns the difference is 0 exactly if the first j words agree. Assumes nothing.
+use Prim.Native.Nat.{_-_, _≤_}
+use native.Mathlib.Omega.{arith}
+use lib.Dec.{eqb}
+use Rattle.sheet.specs.Table.{Reflects}
+use Rattle.recount.specs.Internal.{SameRow}
+use Rattle.recount.proofs.RowLaws.{same-none, same-more, same-done}
+use Rattle.recount.proofs.rows.same_row.Statement.{statement}
+use Rattle.recount.proofs.rows.same_row.Tie as tie
+
+abbrev Inv-loop : tie.InvT-loop
+Inv-loop n sheet base t difference₀ j₀ difference j = (j ≤ n) × Reflects (eqb difference 0) (SameRow j sheet base t)
+
+abbrev μ-loop : tie.MeasureT-loop
+μ-loop n sheet base t difference₀ j₀ difference j = n - j
+
+loop-holds : tie.Need-loop-holds Inv-loop μ-loop
+loop-holds c = (omega arith, same-none (c .args .sheet .now) (c .args .base) (c .args .t .now))
+
+add-difference : tie.Need-add-difference Inv-loop μ-loop
+add-difference c = omega arith
+
+mul-difference : tie.Need-mul-difference Inv-loop μ-loop
+mul-difference c = omega arith
+
+shared-slice-read-difference : tie.Need-shared-slice-read-difference Inv-loop μ-loop
+shared-slice-read-difference c = omega arith
+
+mul-difference-2 : tie.Need-mul-difference-2 Inv-loop μ-loop
+mul-difference-2 c = omega arith
+
+element-copy-out-difference : tie.Need-element-copy-out-difference Inv-loop μ-loop
+element-copy-out-difference c = omega arith
+
+add-j : tie.Need-add-j Inv-loop μ-loop
+add-j c = omega arith
+
+loop-less : tie.Need-loop-less Inv-loop μ-loop
+loop-less c = omega arith
+
+loop-again : tie.Need-loop-again Inv-loop μ-loop
+loop-again c =
+    let a = c .before .before .before .before .args in
+    let l = c .before .before .before .loop in
+    (omega arith, same-more (a .sheet .now) (a .base) (a .t .now) (l .j) (l .difference) (l .inv .1))
+
+returns : tie.Need-returns Inv-loop μ-loop
+returns c =
+    let a = c .before .before .args in
+    let l = c .before .loop in
+    same-done (a .sheet .now) (a .base) (a .t .now) (l .j) (a .n) (l .difference) (l .inv .1) (omega arith)
+
+pub same-row-spec : {M : Type 1} → statement M
+same-row-spec =
+    tie.close
+    (tie.spec
+    Inv-loop
+    μ-loop
+    loop-holds
+    add-difference
+    mul-difference
+    shared-slice-read-difference
+    mul-difference-2
+    element-copy-out-difference
+    add-j
+    loop-less
+    loop-again
+    returns)
