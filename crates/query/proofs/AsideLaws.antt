@@ -1,11 +1,12 @@
 -- The laws of the walk written aside, vertex by vertex, and of the copy of it. Assumes nothing.
-use mathlib.Core.Path.{_≡_, refl, sym, ap, _∙_}
+use mathlib.Core.Path.{_≡_, refl, sym, ap, ap₂, _∙_}
 use mathlib.Core.Logic.{inl, inr}
 use mathlib.Core.List.{List, [], _∷_, _++_}
-use Prim.Native.Nat.{ℕ, zero, suc, _+_, _-_, _≤_, _<_}
+use Prim.Native.Nat.{ℕ, suc, _+_, _-_, _≤_, _<_}
+use native.Mathlib.Nat.{zero-add}
 use native.Mathlib.Omega.{arith}
 use lib.ListN.{length, getD, take, drop, set, length-set}
-use lib.Seq.{length-take-le}
+use lib.Seq.{length-take-le, take-suc-set, paste, paste-suc}
 use Rattle.sheet.specs.Layout.{countAt, edgeAt}
 use Rattle.query.specs.declared.walk.Next.{Next}
 use Rattle.query.specs.Walk.{headed, walked}
@@ -36,12 +37,6 @@ headed-some x y (z ∷ l) q = refl
 onto-alone : (l : List ℕ) (x : ℕ) → onto l (x ∷ []) ≡ l ++ x ∷ []
 onto-alone [] x = refl
 onto-alone (y ∷ l) x = ap (headed y) (onto-alone l x) ∙ headed-some y x l []
-
--- one more entry is kept
-take-next : (l : List ℕ) (t x : ℕ) → t < length l → take (t + 1) (set l t x) ≡ take t l ++ x ∷ []
-take-next [] t x h = absurd (omega arith)
-take-next (y ∷ l) zero x h = refl
-take-next (y ∷ l) (suc t) x h = let e : suc t + 1 ≡ suc (t + 1) = omega arith in rw e (ap (λ (q : List ℕ). y ∷ q) (take-next l t x (omega arith)))
 
 -- ---- walk_aside: the walk is at a vertex, `left` is left of its number, and `count` vertices before it are kept in l
 
@@ -79,7 +74,7 @@ module _ (n : ℕ) (s : List ℕ) (i j k : ℕ) where
       long′ = ap length el ∙ length-set l count at ∙ was .long
 
       front : take (count + 1) l′ ≡ take count l ++ at ∷ []
-      front = ap (take (count + 1)) el ∙ take-next l count at room
+      front = let e : count + 1 ≡ suc count = omega arith in ap₂ take e el ∙ take-suc-set l count at room
 
       rest : walk n s i j k ≡ onto (take count l) (walked (edgeAt s) (countAt n s) j n (suc (n - (count + 1))) at left)
       rest = let e : n - count ≡ suc (n - (count + 1)) = omega arith in was .goesOn ∙ ap (λ (m : ℕ). onto (take count l) (walked (edgeAt s) (countAt n s) j n m at left)) e
@@ -122,17 +117,11 @@ module _ (n : ℕ) (s : List ℕ) (i j k : ℕ) where
 
 -- ---- copy: t entries of l are copied over those of b
 
-copied-next : (l b : List ℕ) (t : ℕ) → t < length l → t < length b → set (take t l ++ drop t b) t (getD l t 0) ≡ take (t + 1) l ++ drop (t + 1) b
-copied-next [] b t h g = absurd (omega arith)
-copied-next (x ∷ l) [] t h g = absurd (omega arith)
-copied-next (x ∷ l) (y ∷ b) zero h g = refl
-copied-next (x ∷ l) (y ∷ b) (suc t) h g =
-    let e : suc t + 1 ≡ suc (t + 1) = omega arith in
-    rw e (ap (λ (q : List ℕ). x ∷ q) (copied-next l b t (omega arith) (omega arith)))
-
-module _ (l b q : List ℕ) (t : ℕ) (is : q ≡ take t l ++ drop t b) where
-  pub copy-more : t < length l → t < length b → set q t (getD l t 0) ≡ take (t + 1) l ++ drop (t + 1) b
-  copy-more h g = ap (λ (p : List ℕ). set p t (getD l t 0)) is ∙ copied-next l b t h g
+module _ (l b q : List ℕ) (t : ℕ) (is : q ≡ paste b 0 l t) where
+  pub copy-more : t < length l → t < length b → set q t (getD l t 0) ≡ paste b 0 l (t + 1)
+  copy-more h g =
+      let next : suc t ≡ t + 1 = omega arith in
+      ap₂ (λ (p : List ℕ) (x : ℕ). set p x (getD l t 0)) is (sym (zero-add t)) ∙ paste-suc b 0 l t 0 (omega arith) h ∙ ap (paste b 0 l) next
 
   pub copy-done : t ≤ length l → q ≡ written (take t l) b
-  copy-done h = is ∙ ap (λ (m : ℕ). take t l ++ drop m b) (sym (length-take-le t l h))
+  copy-done h = is ∙ ap (λ (m : ℕ). take t l ++ drop m b) (zero-add t ∙ sym (length-take-le t l h))

@@ -1,7 +1,8 @@
 -- The laws of a given path, read from its first byte on: what is found up to the byte reached, and what is left from there. t is the
 -- byte reached. Assumes nothing.
-use mathlib.Core.Path.{_≡_, refl, sym, ap, _∙_}
+use mathlib.Core.Path.{_≡_, sym, ap, _∙_}
 use mathlib.Core.Bool.{Bool, true, false, false≢true, _||_}
+use mathlib.Mathlib.Data.Bool.{or-eq-false-eq-eq-false-and-eq-false}
 use mathlib.Core.List.{List, [], _∷_}
 use Prim.Native.Nat.{ℕ, zero, suc, _+_, _-_, _≤_, _<_}
 use native.Mathlib.Omega.{arith}
@@ -14,10 +15,6 @@ use Rattle.word.proofs.BitLaws.{has-true, has-false}
 use Rattle.sheet.specs.Layout.{rowAt, edgeAt}
 use Rattle.query.specs.Rank.{someNoVertex, gap, broken}
 use Rattle.query.specs.Internal.{Vertices}
-
-or-false : (a b : Bool) → (a || b) ≡ false → (a ≡ false) × (b ≡ false)
-or-false true b e = absurd (false≢true (sym e))
-or-false false b e = (refl, e)
 
 -- ---- what is left of a list from a place on
 
@@ -54,8 +51,8 @@ module _ (n : ℕ) (p : List ℕ) (t : ℕ) (same : someNoVertex n p ≡ someNoV
 vertices-all : (n : ℕ) (p : List ℕ) → someNoVertex n p ≡ false → Vertices n p
 unfolding someNoVertex
 vertices-all n [] e t h = absurd (omega arith)
-vertices-all n (x ∷ p) e zero h = leb-false n x (or-false (leb n x) _ e .0)
-vertices-all n (x ∷ p) e (suc t) h = vertices-all n p (or-false (leb n x) _ e .1) t (omega arith)
+vertices-all n (x ∷ p) e zero h = leb-false n x (or-eq-false-eq-eq-false-and-eq-false (leb n x) _ .0 e .0)
+vertices-all n (x ∷ p) e (suc t) h = vertices-all n p (or-eq-false-eq-eq-false-and-eq-false (leb n x) _ .0 e .1) t (omega arith)
 
 pub vertices-of : (n : ℕ) (p : List ℕ) (r : Bool) → r ≡ someNoVertex n p → r ≡ false → Vertices n p
 vertices-of n p r er f = vertices-all n p (sym er ∙ f)

@@ -1,15 +1,16 @@
 -- The laws of trying edges, of the counts passed over, and of the walk by a number, for any tables of edges and of counts. Assumes
 -- nothing.
-use mathlib.Core.Path.{_≡_, refl, ap, _∙_}
+use mathlib.Core.Path.{_≡_, refl, ap}
 use mathlib.Core.Bool.{Bool, true, false, cond}
 use mathlib.Core.List.{[], _∷_}
-use Prim.Native.Nat.{ℕ, zero, suc, _+_, _-_, _≤_, _<_}
+use Prim.Native.Nat.{ℕ, zero, suc, _+_, _-_, _*_, _≤_, _<_}
 use native.Mathlib.Nat.{zero-mul, one-mul, add-zero}
 use native.Mathlib.Decide.{ℕ-discrete, decLt}
 use native.Mathlib.Omega.{arith}
 use borrow.Author.Tests.{ltb-true, ltb-false, eq-eqb, ne-eqb}
 use lib.Dec.{ltb}
 use Rattle.sums.specs.Sum.{sum}
+use Rattle.sums.proofs.SumLaws.{sum-longer, sum-far}
 use Rattle.query.specs.Walk.{Turn, goes, passes, headed, tryEdge, tried, walked}
 use Rattle.query.specs.Number.{passed}
 
@@ -49,17 +50,12 @@ module _ (n : ℕ) (w C : ℕ → ℕ → ℕ) (j : ℕ) (one : (i a : ℕ) → 
 
   -- where no edge runs to the vertices from c up to b, no count is passed over between them
   pub passed-far : (i c b : ℕ) → c ≤ b → ((a : ℕ) → c ≤ a → a < b → w i a ≡ 0) → passed w C j i b ≡ passed w C j i c
-  passed-far i c zero h z = let e : c ≡ 0 = omega arith in rw e
-  passed-far i c (suc b) h z =
-      elim (ℕ-discrete c (suc b)) [
-        | yes e ↦ rw e
-        | no d ↦ passed-skip i b (z b (omega arith) (omega arith)) ∙ passed-far i c b (omega arith) (λ a p q. z a p (omega arith))
-      ]
+  unfolding passed
+  passed-far i c b h z = sum-far c b (λ a. w i a * C a j) h (λ a p q. rw (z a p q) (zero-mul (C a j)))
 
   passed-le : (i b c : ℕ) → b ≤ c → passed w C j i b ≤ passed w C j i c
-  unfolding passed sum
-  passed-le i b zero h = let e : b ≡ 0 = omega arith in rw e (omega arith)
-  passed-le i b (suc c) h = elim (ℕ-discrete b (suc c)) [ yes e ↦ rw e (omega arith) | no d ↦ omega (arith, passed-le i b c (omega arith)) ]
+  unfolding passed
+  passed-le i b c h = sum-longer b c (λ a. w i a * C a j) h
 
   -- what is passed over on the way to b and less than the count from b is less than what is passed over on the way further than b
   pub passed-within : (i b c k : ℕ) → 0 < w i b → b < c → k < C b j → passed w C j i b + k < passed w C j i c

@@ -64,11 +64,25 @@ unfolding sum
 sum-swap zero m f = sym (sum-zero m)
 sum-swap (suc n) m f = ap (λ x. x + sum m (f n)) (sum-swap n m f) ∙ sym (sum-add m (λ j. sum n (λ i. f i j)) (f n))
 
+-- a longer sum is no less, and is the same where the terms between are 0
+pub sum-longer : (b c : ℕ) (f : ℕ → ℕ) → b ≤ c → sum b f ≤ sum c f
+unfolding sum
+sum-longer b zero f h = let e : b ≡ 0 = omega arith in rw e (omega arith)
+sum-longer b (suc c) f h = elim (ℕ-discrete b (suc c)) [ yes e ↦ rw e (omega arith) | no d ↦ omega (arith, sum-longer b c f (omega arith)) ]
+
+pub sum-far : (c b : ℕ) (f : ℕ → ℕ) → c ≤ b → ((a : ℕ) → c ≤ a → a < b → f a ≡ 0) → sum b f ≡ sum c f
+unfolding sum
+sum-far c zero f h z = let e : c ≡ 0 = omega arith in rw e
+sum-far c (suc b) f h z =
+    elim (ℕ-discrete c (suc b)) [
+      | yes e ↦ rw e
+      | no d ↦ omega (arith, z b (omega arith) (omega arith), sum-far c b f (omega arith) (λ a p q. z a p (omega arith)))
+    ]
+
 -- a term is at most the sum
 pub term-le : (n : ℕ) (f : ℕ → ℕ) (i : ℕ) → i < n → f i ≤ sum n f
 unfolding sum
-term-le zero f i h = omega arith
-term-le (suc n) f i h = elim (ℕ-discrete i n) [ yes e ↦ rw e (omega arith) | no d ↦ omega (arith, term-le n f i (omega arith)) ]
+term-le n f i h = omega (arith, sum-longer (suc i) n f h)
 
 -- a sum that is not 0 has a term that is not 0
 pub some-term : (n : ℕ) (f : ℕ → ℕ) → 0 < sum n f → (i : ℕ) × (i < n) × (0 < f i)

@@ -2,7 +2,7 @@
 use mathlib.Core.Path.{_≡_, sym, ap, ap₂, subst, _∙_}
 use mathlib.Core.Logic.{inl, inr, ⊎-elim}
 use Prim.Native.Nat.{ℕ, zero, suc, _+_, _-_, _*_, _/_, _%_, _^_, _≤_, _<_}
-use native.Mathlib.Nat.{add-suc, mod-lt, mod-eq-of-lt, add-comm, add-zero, zero-mul, one-mul, lt-of-lt-of-le}
+use native.Mathlib.Nat.{mod-lt, mod-eq-of-lt, add-comm, add-zero, zero-mul, one-mul, lt-of-lt-of-le}
 use native.Mathlib.Numerals.{one-add}
 use native.Mathlib.Decide.{ℕ-discrete}
 use native.Mathlib.Omega.{arith}
@@ -11,7 +11,7 @@ use lib.Pow.{pow-pos, pow-mono, shr-lt, split, ones-lt}
 use lib.Count.{ones, ones-cat, ones-ones, trailingZeros}
 use Rattle.sums.specs.Sum.{sum, delta}
 use Rattle.sums.specs.Modulo.{Congruent}
-use Rattle.sums.proofs.SumLaws.{delta-refl, delta-diff, sum-cong, sum-add, sum-all-zero, sum-pick, term-le}
+use Rattle.sums.proofs.SumLaws.{delta-refl, delta-diff, sum-cong, sum-add, sum-all-zero, sum-pick, sum-far, term-le}
 use Rattle.word.specs.Bit.{bit, withoutBit, bitCount, Lowest}
 use Rattle.word.proofs.BitLaws.{bit-lt, bit-cases, bit-zero, bit-half, bit-mod, bit-clear-same, bit-clear-other, clear-below, clear-lt, half-lt, bit-above-zero, bit-one-lt}
 
@@ -49,18 +49,10 @@ pub bitCount-pos : (x j : ℕ) → bit x j ≡ 1 → j < 64 → 0 < bitCount x
 unfolding bitCount
 bitCount-pos x j e h = omega (arith, term-le 64 (λ b. bit x b) j h)
 
--- terms that are 0 from n on add nothing
-sum-above : (n d : ℕ) (f : ℕ → ℕ) → ((j : ℕ) → n ≤ j → f j ≡ 0) → sum (n + d) f ≡ sum n f
-unfolding sum
-sum-above n zero f h = ap (λ (k : ℕ). sum k f) (add-zero n)
-sum-above n (suc d) f h = ap (λ (k : ℕ). sum k f) (add-suc n d) ∙ omega (arith, sum-above n d f h, h (n + d) (omega arith))
-
 -- a word without a bit at n or above has its set bits below n
 pub bitCount-below : (n x : ℕ) → n ≤ 64 → x < 2 ^ n → bitCount x ≡ sum n (λ j. bit x j)
 unfolding bitCount
-bitCount-below n x h l =
-    let e : n + (64 - n) ≡ 64 = omega arith in
-    ap (λ (k : ℕ). sum k (λ j. bit x j)) (sym e) ∙ sum-above n (64 - n) (λ j. bit x j) (λ j q. bit-above-zero x n j l q)
+bitCount-below n x h l = sum-far n 64 (λ j. bit x j) h (λ j q _. bit-above-zero x n j l q)
 
 bits-le : (n x : ℕ) → sum n (λ j. bit x j) ≤ n
 unfolding sum

@@ -1,22 +1,22 @@
 -- `query::walk::copy` meets its contract: the bytes up to the one reached are copied, the others are as they were. Assumes nothing.
 use mathlib.Core.Path.{_≡_, refl}
-use mathlib.Core.List.{_++_}
 use Prim.Native.Nat.{_-_, _≤_}
 use native.Mathlib.Omega.{arith}
 use borrow.Author.Needs.{needs}
-use lib.ListN.{length, take, drop, length-set}
+use lib.ListN.{length, length-set}
+use lib.Seq.{paste, paste-zero}
 use Rattle.query.proofs.AsideLaws.{copy-more, copy-done}
 use Rattle.query.proofs.walk.copy.Statement.{statement}
 use Rattle.query.proofs.walk.copy.Tie as tie
 
 abbrev Inv-loop : tie.InvT-loop
-Inv-loop count aside path₀ t₀ path t = (t ≤ count) × (length path ≡ length path₀) × (path ≡ take t aside ++ drop t path₀)
+Inv-loop count aside path₀ t₀ path t = (t ≤ count) × (length path ≡ length path₀) × (path ≡ paste path₀ 0 aside t)
 
 abbrev μ-loop : tie.MeasureT-loop
 μ-loop count aside path₀ t₀ path t = count - t
 
 loop-holds : tie.Need-loop-holds Inv-loop μ-loop
-loop-holds c = (omega arith, refl, refl)
+loop-holds c = (omega arith, refl, paste-zero (c .args .path .now) 0 (c .args .aside .now))
 
 loop-again : tie.Need-loop-again Inv-loop μ-loop
 loop-again c =
