@@ -8,8 +8,12 @@
  * Every call answers for every n, every length, all words and all bytes, and ends. A refused call changes no word and no byte.
  * The caller lends `sheet`, `words` words aligned as uint64_t, and nobody else writes them during the call; if `words` is 0 it
  * may be NULL. A path is lent as `path`, `path_bytes` bytes apart from the sheet, in the same way: one byte a vertex, from the
- * first byte on; if `path_bytes` is 0 it may be NULL. No call keeps anything between calls, so calls on different sheets, and
- * calls that only read one sheet, may run at the same time, each with a path of its own to write.
+ * first byte on; if `path_bytes` is 0 it may be NULL. So is a plan, as `plan` and `plan_bytes`. No call keeps anything between
+ * calls, so calls on different sheets, and calls that only read one sheet, may run at the same time, each with a path or a plan of
+ * its own to write.
+ *
+ * A plan is records of 8 bytes, and nothing else: 'L' or 'T', a space, two digits, a space, two digits, a line feed, in ASCII.
+ * `L 03 04` inserts the edge from vertex 3 to vertex 4, `T 03 04` deletes it.
  *
  * Link with liblugloquat.a, which is for x86-64 and its System V calling convention. It needs memcpy and memset, and nothing else.
  */
@@ -146,6 +150,22 @@ lugloquat_answer lugloquat_unrank(size_t n, const uint64_t *sheet, size_t words,
  * sheet that is the number by which lugloquat_unrank finds the path; of the paths of any other nothing is claimed.
  */
 lugloquat_answer lugloquat_rank(size_t n, const uint64_t *sheet, size_t words, const uint8_t *path, size_t path_bytes);
+
+/*
+ * Reads a plan into a valid sheet: its records are applied in order, each to the sheet as those before it left it, and every count is
+ * brought up to date. If a record is refused, those before it are undone, and whatever comes after it is not looked at.
+ * Refused by 1, 2, 9, 13, and at a record, whose place from 1 up is answered, by 14, 3, 5, 6, 7, 8. value: the number of set bits
+ * in all rows afterwards. A valid sheet stays valid; a plan of no bytes is accepted and changes nothing. The call keeps a copy of
+ * the sheet on the stack, 33,280 bytes.
+ */
+lugloquat_answer lugloquat_read_plan(size_t n, uint64_t *sheet, size_t words, const uint8_t *plan, size_t plan_bytes);
+
+/*
+ * Writes the edges of a valid sheet as `L` records, ascending by the vertex that an edge runs from, then by the one that it runs
+ * to, to the first bytes of `plan`; the rest of the bytes stay. Refused by 1, 2, 9, 10 (`plan_bytes` is under 8 an edge).
+ * value: the number of bytes written. Read into an empty sheet of n vertices they give the same words.
+ */
+lugloquat_answer lugloquat_write_plan(size_t n, const uint64_t *sheet, size_t words, uint8_t *plan, size_t plan_bytes);
 
 /*
  * Works out every count afresh from the rows, which stay. Refused by 1, 2, 4, 8 (an edge from a vertex to itself is a cycle).

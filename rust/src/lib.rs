@@ -6,11 +6,11 @@
 //! each count is the number of paths; a vertex alone is one path, from it to itself.
 //!
 //! Every call answers for every n, every length, all words and all bytes. `Ok` has the call's value; `Err` says why it was refused,
-//! and then no word and no byte has changed.
+//! and at which record of a plan, and then no word and no byte has changed.
 //!
 //! ```
 //! use lugloquat::{delete_edges_at, empty, insert_edge, insert_edges_at, path_count, validate, word_count, Reason};
-//! use lugloquat::{rank, reaches_without, unrank};
+//! use lugloquat::{rank, reaches_without, read_plan, unrank, write_plan};
 //!
 //! let mut sheet = [0; word_count(5)];
 //! empty(5, &mut sheet)?;
@@ -28,6 +28,12 @@
 //! assert_eq!(path_count(5, &sheet, 0, 3), Ok(3));
 //! assert_eq!(delete_edges_at(5, &mut sheet, 4, 1 << 1, 1 << 3), Ok(4));
 //! assert_eq!(validate(5, &sheet), Ok(1));
+//! let refused = read_plan(5, &mut sheet, b"L 04 00\nL 03 04\n").unwrap_err();
+//! assert_eq!((refused.place, refused.reason), (2, Reason::Cycle));
+//! assert_eq!(read_plan(5, &mut sheet, b"T 02 03\nL 02 01\n"), Ok(4));
+//! let mut plan = [0; 40];
+//! assert_eq!(write_plan(5, &sheet, &mut plan), Ok(32));
+//! assert_eq!(&plan[..32], b"L 00 01\nL 00 02\nL 01 03\nL 02 01\n");
 //! # Ok::<(), lugloquat::Refusal>(())
 //! ```
 #![no_std]
@@ -159,6 +165,33 @@ pub fn unrank(n: usize, sheet: &[u64], from: usize, to: usize, k: u64, path: &mu
 pub fn rank(n: usize, sheet: &[u64], path: &[u8]) -> Result<u64, Refusal> {
     // SAFETY: the words and the bytes are those of the slices, and are only read.
     unsafe { sys::lugloquat_rank(n, sheet.as_ptr(), sheet.len(), path.as_ptr(), path.len()) }.result()
+}
+
+/// Reads a plan into a valid sheet: its records, each an insertion or a deletion of one edge, are applied in order, each to the sheet
+/// as those before it left it; if one is refused, the sheet is as it was, and [`Refusal::place`] is that record's, from 1 up. The
+/// value is the number of set bits in all rows afterwards. The sheet stays valid, and an empty plan leaves it as it is. The call keeps
+/// a copy of the sheet on the stack, 33,280 bytes.
+///
+/// A record is 8 bytes of ASCII: `L` to insert or `T` to delete, a space, the vertex that the edge runs from in two decimal digits, a
+/// space, the vertex that it runs to in two, a line feed. A plan is nothing but records, 4,096 at most.
+///
+/// Refused as [`Reason::Vertices`], [`Reason::Length`], [`Reason::NotValid`], [`Reason::PlanLength`], and at a record as
+/// [`Reason::Record`], [`Reason::Vertex`], [`Reason::SelfLoop`], [`Reason::Present`], [`Reason::Absent`], [`Reason::Cycle`],
+/// in this order. The first record that is refused gives the reason, whatever comes after it.
+pub fn read_plan(n: usize, sheet: &mut [u64], plan: &[u8]) -> Result<u64, Refusal> {
+    // SAFETY: the words and the bytes are those of the slices; the words are lent for the call alone, the bytes only read.
+    unsafe { sys::lugloquat_read_plan(n, sheet.as_mut_ptr(), sheet.len(), plan.as_ptr(), plan.len()) }.result()
+}
+
+/// Writes the edges of a valid sheet as a plan to the first bytes of `plan`; the others stay. Each edge is one record that inserts
+/// it, as [`read_plan`] has them, and they ascend by the vertex that the edge runs from, then by the one that it runs to. The value is
+/// the number of bytes written. Read into an empty sheet of n vertices they give the same words.
+///
+/// Refused as [`Reason::Vertices`], [`Reason::Length`], [`Reason::NotValid`], [`Reason::Buffer`] (`plan` has fewer than 8 bytes an
+/// edge), in this order.
+pub fn write_plan(n: usize, sheet: &[u64], plan: &mut [u8]) -> Result<u64, Refusal> {
+    // SAFETY: the words and the bytes are those of the slices; the words are only read, the bytes lent for the call alone.
+    unsafe { sys::lugloquat_write_plan(n, sheet.as_ptr(), sheet.len(), plan.as_mut_ptr(), plan.len()) }.result()
 }
 
 /// Works out every count afresh from the rows, which stay. The value is the number of set bits in all rows.

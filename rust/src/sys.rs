@@ -67,6 +67,8 @@ extern "C" {
         path_bytes: usize,
     ) -> Answer;
     pub fn lugloquat_rank(n: usize, sheet: *const u64, words: usize, path: *const u8, path_bytes: usize) -> Answer;
+    pub fn lugloquat_read_plan(n: usize, sheet: *mut u64, words: usize, plan: *const u8, plan_bytes: usize) -> Answer;
+    pub fn lugloquat_write_plan(n: usize, sheet: *const u64, words: usize, plan: *mut u8, plan_bytes: usize) -> Answer;
     pub fn lugloquat_recount(n: usize, sheet: *mut u64, words: usize) -> Answer;
     pub fn lugloquat_validate(n: usize, sheet: *const u64, words: usize) -> Answer;
 }

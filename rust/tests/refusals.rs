@@ -1,6 +1,6 @@
 //! Answers as results: each number has one reason, and a refusal says its number, its meaning and its place.
 
-use lugloquat::{sys::Answer, validate, word_count, Reason, Refusal};
+use lugloquat::{empty, read_plan, sys::Answer, validate, word_count, Reason, Refusal};
 
 #[test]
 fn an_answer_is_a_value_or_a_refusal() {
@@ -33,8 +33,21 @@ fn a_refusal_says_why() {
     let refused = validate(65, &[]).unwrap_err();
     assert_eq!(refused, Refusal { reason: Reason::Vertices, place: 0 });
     assert_eq!(refused.to_string(), "refused 1: n is not 1 to 64");
-    let record = Refusal { reason: Reason::Cycle, place: 2 };
-    assert_eq!(record.to_string(), "record 2 refused 8: a cycle");
+}
+
+#[test]
+fn a_refusal_says_at_which_record() {
+    let mut sheet = [0; word_count(2)];
+    assert_eq!(empty(2, &mut sheet), Ok(0));
+    let refused = read_plan(2, &mut sheet, b"L 00 01\nL 01 00\n").unwrap_err();
+    assert_eq!(refused, Refusal { reason: Reason::Cycle, place: 2 });
+    assert_eq!(refused.to_string(), "record 2 refused 8: a cycle");
+    let refused = read_plan(2, &mut sheet, b"L 00 01\nL 01 00").unwrap_err();
+    assert_eq!(refused, Refusal { reason: Reason::PlanLength, place: 0 });
+    assert_eq!(
+        refused.to_string(),
+        "refused 13: a plan's length is not a multiple of 8, or over 32,768 bytes"
+    );
 }
 
 #[test]

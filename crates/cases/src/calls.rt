@@ -1,4 +1,4 @@
-// The public calls of the crates sheet, recount, edit and query, each with a line of what it answers. A call that may write has a
+// The public calls of the crates sheet, recount, edit, query and plan, each with a line of what it answers. A call that may write has a
 // second line: whether it left every word as it was, 1 or 0; or all bytes of the buffer for a path.
 use crate::buffer;
 use crate::lines;
@@ -127,6 +127,34 @@ pub fn rank(n: usize, words: &[u64], path: &[u8]) {
     lines::answer(b"", &[], query::rank(n, words, path));
 }
 
+// A plan read into the sheet, under its length.
+pub fn read_plan(n: usize, words: &mut [u64], plan: &[u8]) {
+    let kept = buffer::keep(words);
+    lines::answer(
+        b"read_plan",
+        &[plan.len() as u64],
+        plan::read_plan(n, words, plan),
+    );
+    same(b"unchanged ", &kept, words);
+}
+
+// The plan of a sheet written, under the length of the buffer. The case prints the bytes, or reads them.
+pub fn write_plan(n: usize, words: &[u64], plan: &mut [u8]) {
+    lines::answer(
+        b"write_plan",
+        &[plan.len() as u64],
+        plan::write_plan(n, words, plan),
+    );
+}
+
+// Every edit, on one buffer.
+fn each_edit(n: usize, words: &mut [u64]) {
+    insert_edge(n, words, 0, 1);
+    delete_edge(n, words, 0, 1);
+    insert_edges_at(n, words, 0, 0, 0);
+    delete_edges_at(n, words, 0, 0, 0);
+}
+
 // Every call, on one buffer, under a line with the sizes.
 pub fn each(n: usize, words: &mut [u64]) {
     lines::number(b"vertices ", n as u64);
@@ -135,11 +163,10 @@ pub fn each(n: usize, words: &mut [u64]) {
     reaches_without(n, words, 0, 1, 0, 1);
     unrank(n, words, 0, 1, 0, &mut [buffer::NO_VERTEX; 2]);
     rank(n, words, &[buffer::NO_VERTEX; 2]);
+    read_plan(n, words, b"L");
+    write_plan(n, words, &mut []);
     empty(n, words);
-    insert_edge(n, words, 0, 1);
-    delete_edge(n, words, 0, 1);
-    insert_edges_at(n, words, 0, 0, 0);
-    delete_edges_at(n, words, 0, 0, 0);
+    each_edit(n, words);
     path_count(n, words, 0, 0);
     recount(n, words);
     validate(n, words);

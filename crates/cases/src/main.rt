@@ -1,6 +1,6 @@
-// Runs document 01's cases of the empty sheet, the edits, the counts, the recount, the validation and the three questions about
-// paths, through the public calls of the crates sheet, recount, edit and query, and prints what the calls answer: a heading for each
-// case, then a line for each call. The program knows no answer; the file stdout beside it does.
+// Runs document 01's cases of the empty sheet, the edits, the counts, the recount, the validation, the three questions about paths and
+// the plans, through the public calls of the crates sheet, recount, edit, query and plan, and prints what the calls answer: a heading
+// for each case, then a line for each call. The program knows no answer; the file stdout beside it does.
 mod buffer;
 mod calls;
 mod lines;
@@ -212,15 +212,51 @@ fn damaged_questions(mut words: [u64; 30]) {
     calls::reaches_without(1, &[1, 5], 0, 0, 0, 0);
 }
 
-// The diamond's words with the count from 0 to 3, word 5 + 3, raised by one; then recounted.
+// The diamond's words with the count from 0 to 3, word 5 + 3, raised by one: a plan is refused by the sheet, before its own length or
+// the buffer's; then recounted.
 fn wrong_count(mut words: [u64; 30]) {
     lines::heading(b"diamond with a wrong count");
     buffer::add(&mut words, 8, 1);
     calls::validate(5, &words);
     calls::path_count(5, &words, 0, 3);
+    calls::read_plan(5, &mut words, &[]);
+    calls::read_plan(5, &mut words, b"L 00 01");
+    calls::write_plan(5, &words, &mut []);
     calls::recount(5, &mut words);
     calls::path_count(5, &words, 0, 3);
     calls::validate(5, &words);
+}
+
+// The diamond by its plan, from the empty sheet; and its plan, written into a longer buffer, whose rest stays, and into one that is a byte
+// too short. An empty plan is accepted, and so is an empty sheet's.
+fn plans() -> [u64; 30] {
+    lines::heading(b"diamond by its plan");
+    let mut words = [GARBAGE; 30];
+    calls::empty(5, &mut words);
+    calls::read_plan(5, &mut words, &[]);
+    calls::write_plan(5, &words, &mut []);
+    calls::read_plan(5, &mut words, b"L 00 01\nL 00 02\nL 01 03\nL 02 03\n");
+    calls::validate(5, &words);
+    let plan: &mut [u8] = &mut [b'.'; 35];
+    calls::write_plan(5, &words, &mut plan[..31]);
+    lines::heading(plan);
+    calls::write_plan(5, &words, plan);
+    lines::heading(plan);
+    words
+}
+
+// Plans that the diamond refuses, by each number that a plan has after 9, and the place of the record: the records before it are undone.
+// The cycle by way of vertex 4 comes with the second record.
+fn refused_plans(mut words: [u64; 30]) {
+    lines::heading(b"diamond, refused plans");
+    calls::read_plan(5, &mut words, b"L 04 00\nL 03 04\n");
+    calls::read_plan(5, &mut words, b"L 04 00");
+    calls::read_plan(5, &mut words, &[b'L'; 32776]);
+    calls::read_plan(5, &mut words, b"T 00 01\nl 00 01\n");
+    calls::read_plan(5, &mut words, b"L 00 05\n");
+    calls::read_plan(5, &mut words, b"L 00 04\nL 01 04\nL 04 04\n");
+    calls::read_plan(5, &mut words, b"T 00 01\nL 00 01\nL 00 01\n");
+    calls::read_plan(5, &mut words, b"T 00 01\nT 00 01\nl 00 01\n");
 }
 
 // A recount and a validation of words whose rows no valid sheet has.
@@ -286,6 +322,18 @@ fn most_edges() {
     calls::rank(64, sheet, path);
     calls::reaches_without(64, sheet, 0, 63, 0, 63);
     calls::reaches_without(64, sheet, 62, 63, 62, 63);
+    most_records(&mut words);
+}
+
+// 64 vertices, every lower one joined to every higher one: the plan written, and read into the empty sheet.
+fn most_records(words: &mut [u64]) {
+    lines::heading(b"every edge up by its plan");
+    let plan: &mut [u8] = &mut [b'.'; 16128];
+    calls::write_plan(64, words, plan);
+    calls::empty(64, words);
+    calls::read_plan(64, words, plan);
+    calls::path_count(64, words, 0, 63);
+    calls::recount(64, words);
 }
 
 // The sheet that the library makes, and its constants.
@@ -314,6 +362,8 @@ fn main() {
     refused_questions(&words);
     damaged_walks();
     damaged_questions(words);
+    calls::same(b"same words ", &plans(), &words);
+    refused_plans(words);
     cycles();
     stray_bits();
     most_edges();

@@ -13,6 +13,7 @@ use Rattle.word.specs.Bit.{bit}
 use Rattle.word.proofs.BitLaws.{bit-cases, bit-zero, bit-above-zero}
 use Rattle.word.proofs.MaskLaws.{bit-pow}
 use Rattle.edit.specs.Edit.{one, at, namedAt, named, oneIf, marked}
+use Rattle.edit.specs.Table.{SomeEdge}
 use Rattle.edit.proofs.TestLaws.{named-of, named-into, named-out}
 
 module _ (v a b : ℕ) where
@@ -78,6 +79,13 @@ named-one u v i j = (
     | inr p ↦ (p .0, elim (ℕ-discrete j v) [ yes q ↦ q | no d ↦ absurd (omega (arith, p .1, bit-pow v j ∙ delta-diff j v d)) ])
   ],
   λ p. subst (λ x. named (one u v) x j ≡ true) (sym (p .0)) (named-out u 0 (2 ^ v) j (bit-pow v j ∙ ap (λ x. delta x v) (p .1) ∙ delta-refl v)),
+)
+
+-- of one edge, some is a P exactly if it is
+pub some-one : (n u v : ℕ) (P : ℕ → ℕ → Type 0) → u < n → v < n → SomeEdge n (one u v) P ↔ P u v
+some-one n u v P hu hv = (
+  λ c. let e = named-one u v (c .0) (c .2) .0 (c .4) in subst (λ y. P u y) (e .1) (subst (λ x. P x (c .2)) (e .0) (c .5)),
+  λ p. (u, hu, v, hv, named-one u v u v .1 (refl, refl), p),
 )
 
 -- ---- what becomes of an edge

@@ -9,10 +9,12 @@ use native.Mathlib.Decide.{ℕ-discrete, decLt}
 use native.Mathlib.Omega.{arith}
 use lib.ListN.{length, length-append}
 use Rattle.sums.specs.Sum.{delta}
+use Rattle.sums.specs.Gather.{gather}
 use Rattle.sums.proofs.SumLaws.{delta-refl, delta-diff, sum-cong}
+use Rattle.sums.proofs.GatherLaws.{gather-length}
 use Rattle.graph.specs.Graph.{_isIn_, Distinct, Exactly, Edge, Walk, IsPath, Acyclic}
 use Rattle.graph.specs.Count.{walks, pathCount}
-use Rattle.graph.proofs.Lists.{in-left, in-right, in-either, append-distinct, gather, gather-in, gather-of, gather-distinct, gather-length}
+use Rattle.graph.proofs.Lists.{in-left, in-right, in-either, append-distinct, gather-in, gather-of, gather-distinct}
 use Rattle.graph.proofs.Lists.{when, when-in, when-of, when-distinct, each, each-in, each-of, each-distinct, each-length}
 use Rattle.graph.proofs.Walks.{path-self-only, walk-reach, path-reach, cycle-of}
 use Rattle.graph.proofs.Deep.{Deep, deep}

@@ -8,8 +8,9 @@ use native.Mathlib.Nat.{mul-one}
 use native.Mathlib.Decide.{ℕ-discrete}
 use native.Mathlib.Omega.{arith}
 use lib.ListN.{length, length-append}
-use Rattle.sums.specs.Sum.{sum}
+use Rattle.sums.specs.Gather.{gather}
 use Rattle.sums.proofs.SumLaws.{sum-const}
+use Rattle.sums.proofs.GatherLaws.{gather-length}
 use Rattle.graph.specs.Graph.{_isIn_, Distinct, Exactly}
 
 pub in? : (x : ℕ) (l : List ℕ) → Dec (x isIn l)
@@ -44,10 +45,6 @@ module _ {A : Type 0} where
 
   -- ---- f 0, f 1, .., f (n - 1), one after another
 
-  unfoldable pub gather : ℕ → (ℕ → List A) → List A
-  gather zero f = []
-  gather (suc n) f = gather n f ++ f n
-
   pub gather-in : (n : ℕ) (f : ℕ → List A) (x : A) (b : ℕ) → b < n → x isIn f b → x isIn gather n f
   unfolding gather
   gather-in zero f x b h m = absurd (omega arith)
@@ -72,11 +69,6 @@ module _ {A : Type 0} where
   gather-distinct (suc n) f h g =
       append-distinct (gather n f) (f n) (gather-distinct n f (λ b p. h b (omega arith)) g) (h n (omega arith))
       (λ x p q. let r = gather-of n f x p in omega (arith, r .1, g (r .0) n x (r .2) q))
-
-  pub gather-length : (n : ℕ) (f : ℕ → List A) → length (gather n f) ≡ sum n (λ b. length (f b))
-  unfolding gather sum
-  gather-length zero f = refl
-  gather-length (suc n) f = length-append (gather n f) (f n) ∙ ap (λ x. x + length (f n)) (gather-length n f)
 
   -- ---- a list where P holds, and nothing where it does not
 

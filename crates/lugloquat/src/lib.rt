@@ -9,6 +9,7 @@ ghost use Rattle.edit.specs.Outcome.{editAnswer, editAfter};
 ghost use Rattle.query.specs.ReachesWithout.{reachesWithoutAnswer};
 ghost use Rattle.query.specs.Unrank.{unrankAnswer, unrankAfter};
 ghost use Rattle.query.specs.Rank.{rankAnswer};
+ghost use Rattle.plan.specs.Calls.{ReadPlan, WritePlan};
 use sheet::Answer;
 
 // The empty sheet of n vertices, whatever the words were. Refused by 1, 2. The value is 0.
@@ -128,6 +129,25 @@ pub extern "C" fn lugloquat_rank(n: usize, sheet: &[u64], path: &[u8]) -> Answer
     ensures answer { λ r. ⌜ r ≡ rankAnswer n (now (sheet .entry)) (now (path .entry)) ⌝ }
 {
     query::rank(n, sheet, path)
+}
+
+// The records of a plan, applied one after the other to the sheet; if one is refused, those before it are undone.
+// Refused by 1, 2, 9, 13, and at a record, whose place from 1 up is answered, by 14, 3, 5, 6, 7, 8. The value is the number of set
+// bits in all rows afterwards.
+#[no_mangle]
+pub extern "C" fn lugloquat_read_plan(n: usize, sheet: &mut [u64], plan: &[u8]) -> Answer
+    ensures read { λ r. ⌜ ReadPlan n (now (sheet .entry)) (now (plan .entry)) r (now (sheet .exit)) ⌝ }
+{
+    plan::read_plan(n, sheet, plan)
+}
+
+// The edges of a sheet as `L` records, ascending by from, then to, in the first bytes of `plan`. Refused by 1, 2, 9, 10.
+// The value is the number of bytes written.
+#[no_mangle]
+pub extern "C" fn lugloquat_write_plan(n: usize, sheet: &[u64], plan: &mut [u8]) -> Answer
+    ensures written { λ r. ⌜ WritePlan n (now (sheet .entry)) (now (plan .entry)) r (now (plan .exit)) ⌝ }
+{
+    plan::write_plan(n, sheet, plan)
 }
 
 // The counts worked out afresh from the rows. Refused by 1, 2, 4, 8. The value is the number of set bits in all rows.

@@ -1,16 +1,15 @@
--- The laws of the walk written aside, vertex by vertex, and of the copy of it. Assumes nothing.
+-- The laws of the walk written aside, vertex by vertex. Assumes nothing.
 use mathlib.Core.Path.{_≡_, refl, sym, ap, ap₂, _∙_}
 use mathlib.Core.Logic.{inl, inr}
 use mathlib.Core.List.{List, [], _∷_, _++_}
 use Prim.Native.Nat.{ℕ, suc, _+_, _-_, _≤_, _<_}
-use native.Mathlib.Nat.{zero-add}
 use native.Mathlib.Omega.{arith}
-use lib.ListN.{length, getD, take, drop, set, length-set}
-use lib.Seq.{length-take-le, take-suc-set, paste, paste-suc}
+use lib.ListN.{length, take, set, length-set}
+use lib.Seq.{length-take-le, take-suc-set}
 use Rattle.sheet.specs.Layout.{countAt, edgeAt}
 use Rattle.query.specs.declared.walk.Next.{Next}
 use Rattle.query.specs.Walk.{headed, walked}
-use Rattle.query.specs.Unrank.{walk, written}
+use Rattle.query.specs.Unrank.{walk}
 use Rattle.query.specs.Internal.{Stepped, WalkKept}
 use Rattle.query.proofs.WalkLaws.{walked-none, walked-here, walked-left, walked-goes, walked-passes}
 
@@ -115,13 +114,11 @@ module _ (n : ℕ) (s : List ℕ) (i j k : ℕ) where
               }
             ]
 
--- ---- copy: t entries of l are copied over those of b
+-- ---- what is kept is a beginning of l
 
-module _ (l b q : List ℕ) (t : ℕ) (is : q ≡ paste b 0 l t) where
-  pub copy-more : t < length l → t < length b → set q t (getD l t 0) ≡ paste b 0 l (t + 1)
-  copy-more h g =
-      let next : suc t ≡ t + 1 = omega arith in
-      ap₂ (λ (p : List ℕ) (x : ℕ). set p x (getD l t 0)) is (sym (zero-add t)) ∙ paste-suc b 0 l t 0 (omega arith) h ∙ ap (paste b 0 l) next
+module _ {n : ℕ} {s : List ℕ} {i j k c : ℕ} {l : List ℕ} (kept : WalkKept n s i j k c l) (high : n ≤ 64) where
+  pub aside-within : c ≤ length l
+  aside-within = omega (arith, kept .long, kept .within)
 
-  pub copy-done : t ≤ length l → q ≡ written (take t l) b
-  copy-done h = is ∙ ap (λ (m : ℕ). take t l ++ drop m b) (zero-add t ∙ sym (length-take-le t l h))
+  pub aside-taken : length (take c l) ≡ c
+  aside-taken = length-take-le c l aside-within

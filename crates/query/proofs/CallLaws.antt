@@ -6,7 +6,7 @@ use Prim.Native.Nat.{ℕ, _*_, _%_, _^_, _≤_}
 use native.Mathlib.Omega.{arith}
 use borrow.Author.Tests.{eq-eqb, ne-eqb}
 use lib.ListN.{length, take}
-use lib.Seq.{length-take-le}
+use Rattle.text.specs.Text.{written}
 use Rattle.sheet.specs.declared.answer.Answer.{Answer}
 use Rattle.sheet.specs.Table.{_gives_, Tests, firstTrue}
 use Rattle.sheet.specs.Answers.{answer}
@@ -17,9 +17,10 @@ use Rattle.sheet.proofs.TableLaws.{first-here, first-next, first-none, first-st
 use Rattle.sheet.proofs.ShapeLaws.{sized-stops, sized-passes}
 use Rattle.sheet.proofs.AnswerLaws.{answered-refused, answered-accepted, decided-refused, decided-accepted}
 use Rattle.query.specs.ReachesWithout.{reachesWithoutNumber, product, reachesWithout, reachesWithoutAnswer}
-use Rattle.query.specs.Unrank.{walk, numberTests, walkTests, unrankNumber, written, unrankAnswer, unrankAfter}
+use Rattle.query.specs.Unrank.{walk, numberTests, walkTests, unrankNumber, unrankAnswer, unrankAfter}
 use Rattle.query.specs.Rank.{someNoVertex, broken, pathTests, rankNumber, pathNumber, rankAnswer}
 use Rattle.query.specs.Internal.{beforeWalk, WalkKept}
+use Rattle.query.proofs.AsideLaws.{aside-taken}
 
 -- ---- product
 
@@ -71,7 +72,7 @@ module _ (n : ℕ) (s : List ℕ) (i j k : ℕ) (p : List ℕ) (m : ℕ) (em : m
 
     module _ (d : c ≡ 0 → ⊥) (high : n ≤ 64) where
       vertices : length (walk n s i j k) ≡ c
-      vertices = ap length (sym (kept .kept)) ∙ length-take-le c l (omega (arith, kept .long, kept .within))
+      vertices = ap length (sym (kept .kept)) ∙ aside-taken kept high
 
       arrives : 0 ≡ unrankNumber n s i j k (length p)
       arrives = sym first-none ∙ sym (first-next _ [] (ne-eqb _ 0 (λ e. d (sym vertices ∙ e)))) ∙ passes

@@ -17,6 +17,7 @@ use Rattle.graph.proofs.Lists.{exactly-only}
 use Rattle.graph.proofs.Walks.{walk-below, path-length-le}
 use Rattle.graph.proofs.Bound.{paths-below}
 use Rattle.graph.proofs.Through.{through-le, paths-through, path-without-iff}
+use Rattle.text.specs.Text.{written}
 use Rattle.sheet.specs.declared.answer.Answer.{Answer}
 use Rattle.sheet.specs.Table.{Conditions, First}
 use Rattle.sheet.specs.Answers.{answer, decided, answered}
@@ -29,7 +30,7 @@ use Rattle.sheet.proofs.ValidLaws.{edge-le, valid-count}
 use Rattle.query.specs.Before.{Before}
 use Rattle.query.specs.Number.{passedOver, end}
 use Rattle.query.specs.ReachesWithout.{edgeConditions, product, reachesWithout, reachesWithoutAnswer, PathWithout}
-use Rattle.query.specs.Unrank.{walk, numberConditions, walkConditions, unrankNumber, written, unrankAnswer, unrankAfter, wrote}
+use Rattle.query.specs.Unrank.{walk, numberConditions, walkConditions, unrankNumber, unrankAnswer, unrankAfter, wrote}
 use Rattle.query.specs.Rank.{SomeNoVertex, Gap, Broken, pathConditions, rankAnswer}
 use Rattle.query.proofs.RankLaws.{path-ends, passed-over-lt, path-walked, walked-path, before-exactly}
 use Rattle.query.proofs.Refusals.{reaches-without-table, unrank-table, rank-table}

@@ -7,6 +7,7 @@ use Prim.Native.Nat.{ℕ}
 use native.Mathlib.Omega.{arith}
 use lib.Dec.{eqb}
 use lib.ListN.{length}
+use Rattle.text.specs.Text.{written}
 use Rattle.sheet.specs.Table.{Conditions, First, Tests, firstTrue, Reflects}
 use Rattle.sheet.specs.Answers.{answer}
 use Rattle.sheet.specs.Layout.{edgeAt}
@@ -15,7 +16,7 @@ use Rattle.sheet.proofs.TableLaws.{Agree, reflects-none, reflects-iff, reflects
 use Rattle.sheet.proofs.ShapeLaws.{sized-agree, vertices-agree}
 use Rattle.sheet.proofs.AnswerLaws.{answered-refused, decided-old}
 use Rattle.query.specs.ReachesWithout.{edgeConditions, edgeTests, reachesWithoutConditions, reachesWithoutAnswer}
-use Rattle.query.specs.Unrank.{walk, numberConditions, numberTests, walkConditions, walkTests, unrankConditions, unrankNumber, written, unrankAnswer, unrankAfter}
+use Rattle.query.specs.Unrank.{walk, numberConditions, numberTests, walkConditions, walkTests, unrankConditions, unrankNumber, unrankAnswer, unrankAfter}
 use Rattle.query.specs.Rank.{SomeNoVertex, someNoVertex, Gap, gap, Broken, broken, pathConditions, pathTests, rankConditions, rankAnswer}
 
 -- ---- tests that decide

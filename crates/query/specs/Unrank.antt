@@ -1,10 +1,11 @@
 -- `unrank`: the path from i to j by its number k, written to a buffer (document 01: a route by number): its conditions by the table of
 -- document 01, in their order, its answer, and the buffer after it. Definitions only. Assumes nothing.
 use mathlib.Core.Path.{_≡_}
-use mathlib.Core.List.{List, [], _∷_, _++_}
+use mathlib.Core.List.{List, [], _∷_}
 use Prim.Native.Nat.{ℕ, _≤_, _<_}
 use lib.Dec.{ltb, leb, eqb}
-use lib.ListN.{length, take, drop}
+use lib.ListN.{length, take}
+use Rattle.text.specs.Text.{written}
 use Rattle.sheet.specs.declared.answer.Answer.{Answer}
 use Rattle.sheet.specs.Table.{_gives_, Conditions, Tests, firstTrue}
 use Rattle.sheet.specs.Answers.{decided, answered}
@@ -35,10 +36,6 @@ unrankConditions n s i j k len = sized n s (vertexConditions n i j (numberCondit
 
 abbrev pub unrankNumber : ℕ → List ℕ → ℕ → ℕ → ℕ → ℕ → ℕ
 unrankNumber n s i j k len = firstTrue (sizedTests n (length s) (vertexTests n i j (numberTests n s i j k len (walkTests n s i j k))))
-
--- l in the first places of a buffer, and the rest as it was
-abbrev pub written : List ℕ → List ℕ → List ℕ
-written l buffer = l ++ drop (length l) buffer
 
 abbrev pub unrankAnswer : ℕ → List ℕ → ℕ → ℕ → ℕ → ℕ → Answer
 unrankAnswer n s i j k len = answered (unrankNumber n s i j k len) (length (walk n s i j k))

@@ -65,7 +65,7 @@ pub fn unrank(n: usize, sheet: &[u64], from: usize, to: usize, k: u64, path: &mu
     if count == 0 {
         return Answer::refused(Refusal::NOT_VALID);
     }
-    walk::copy(count, &aside, path);
+    text::put(path, 0, &aside[..count]);
     Answer::accepted(count as u64)
 }
 

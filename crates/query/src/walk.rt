@@ -1,9 +1,8 @@
 // The walk by a number: from each vertex its edges are tried in ascending order, and the counts passed over are taken off.
 ghost use mathlib.Core.Path.{_≡_};
-ghost use Prim.Native.Nat.{_≤_, _<_};
-ghost use lib.ListN.{length, take};
+ghost use Prim.Native.Nat.{_<_};
+ghost use lib.ListN.{length};
 ghost use Rattle.sheet.specs.Layout.{Shape};
-ghost use Rattle.query.specs.Unrank.{written};
 ghost use Rattle.query.specs.Internal.{Stepped, WalkKept};
 use sheet::Sheet;
 use sheet::layout;
@@ -65,16 +64,4 @@ pub(crate) fn walk_aside(
         left = next.left;
     }
     0
-}
-
-// The first `count` bytes of `aside`, copied to those of `path`.
-pub(crate) fn copy(count: usize, aside: &[u8; Sheet::VERTICES], path: &mut [u8])
-    requires { ⌜ (length (now aside) ≡ 64) × (count ≤ 64) × (count ≤ length (now path)) ⌝ }
-    ensures { λ r. ⌜ now (path .exit) ≡ written (take count (now (aside .entry))) (now (path .entry)) ⌝ }
-{
-    let mut t = 0;
-    while t < count {
-        path[t] = aside[t];
-        t += 1;
-    }
 }

@@ -1,21 +1,22 @@
--- The ways out of `is_valid` and `validate`: r is what the call answers, k what the check of the shape gave. Assumes nothing.
+-- The ways out of `is_valid`, `validate` and `sheet_number`: r is what the call answers, k what the check of the shape gave; and further
+-- conditions after those of a sheet that has to be valid. Assumes nothing.
 use mathlib.Core.Path.{_≡_, refl}
 use mathlib.Core.Logic.{inl, inr}
 use mathlib.Core.Bool.{Bool, true, false}
-use mathlib.Core.List.{List, []}
+use mathlib.Core.List.{List, [], _∷_}
 use Prim.Native.Nat.{ℕ, _<_}
 use lib.ListN.{length}
 use Rattle.sheet.specs.Layout.{Shape}
-use Rattle.sheet.specs.Table.{Reflects}
+use Rattle.sheet.specs.Table.{_gives_, Conditions, First, Reflects}
 use Rattle.sheet.specs.Conditions.{StrayRow, sized}
-use Rattle.sheet.specs.Valid.{Valid}
+use Rattle.sheet.specs.Valid.{Valid, validConditions}
 use Rattle.sheet.specs.Internal.{RowHolds, shapeNumber}
 use Rattle.sheet.specs.declared.answer.Answer.{Answer}
 use Rattle.sheet.specs.Answers.{answer}
 use Rattle.sheet.proofs.TableLaws.{reflects-none, reflects-false, reflects-iff, first-only}
-use Rattle.sheet.proofs.ValidLaws.{valid-iff-holds}
+use Rattle.sheet.proofs.ValidLaws.{valid-iff-holds, accepted-valid, valid-passed}
 use Rattle.sheet.proofs.ShapeLaws.{shape-of, shape-refused, shape-passed}
-use Rattle.recount.specs.Internal.{OrderFound}
+use Rattle.recount.specs.Internal.{SheetNumber, OrderFound}
 use Rattle.recount.specs.Calls.{Validate}
 use Rattle.recount.proofs.OrderLaws.{ordered-acyclic}
 
@@ -49,3 +50,37 @@ module _ (n : ℕ) (s : List ℕ) (k : ℕ) (ek : k ≡ shapeNumber n (length s)
 
   pub validate-not : (r : Answer) (t : Bool) → r ≡ answer 0 0 0 → k ≡ 0 → Reflects t (Valid n s) → t ≡ false → Validate n s r
   validate-not r t er z v e = rw er record { number = shape-passed n s (shape-of n s k ek z) [] 0 refl; place = refl; value = inr (reflects-false v .0 e, refl) }
+
+-- ---- sheet_number: k is what the check of the shape gave
+
+module _ (n : ℕ) (s : List ℕ) (k : ℕ) (ek : k ≡ shapeNumber n (length s)) where
+  abbrev notValid : Conditions
+  notValid = (¬ (Valid n s)) gives 9 ∷ []
+
+  pub sheet-shape : (k ≡ 0 → ⊥) → SheetNumber n s k
+  sheet-shape d = shape-refused n s k ek d notValid
+
+  module _ (t : Bool) (z : k ≡ 0) (v : Reflects t (Valid n s)) where
+    pub sheet-not-valid : t ≡ false → SheetNumber n s 9
+    sheet-not-valid e = shape-passed n s (shape-of n s k ek z) notValid 9 (inl (reflects-false v .0 e, refl))
+
+    pub sheet-valid : t ≡ true → SheetNumber n s 0
+    sheet-valid e = valid-passed n s (v .holds e) [] 0 refl
+
+-- ---- further conditions l after those of the sheet
+
+module _ (n : ℕ) (s : List ℕ) (l : Conditions) (k : ℕ) (h : SheetNumber n s k) where
+  pub valid-stops : (k ≡ 0 → ⊥) → First (validConditions n s l) k
+  valid-stops d = go h
+    where
+      go : First (validConditions n s []) k → First (validConditions n s l) k
+      go (inl p) = inl p
+      go (inr (a, inl p)) = inr (a, inl p)
+      go (inr (a, inr (b, inl p))) = inr (a, inr (b, inl p))
+      go (inr (a, inr (b, inr (c, z)))) = absurd (d z)
+
+  pub valid-of : k ≡ 0 → Valid n s
+  valid-of z = accepted-valid n s [] (rw z at h)
+
+  pub valid-passes : k ≡ 0 → (j : ℕ) → First l j → First (validConditions n s l) j
+  valid-passes z = valid-passed n s (valid-of z) l

@@ -2,7 +2,7 @@
 use mathlib.Core.Path.{_≡_}
 use mathlib.Core.Logic.{_⊎_}
 use mathlib.Core.Bool.{Bool, true, false, cond}
-use mathlib.Core.List.{List}
+use mathlib.Core.List.{List, []}
 use Prim.Native.Nat.{ℕ, _+_, _%_, _^_, _≤_, _<_}
 use lib.Bits.{bitAnd}
 use lib.Dec.{eqb}
@@ -11,9 +11,15 @@ use Rattle.word.specs.Bit.{bit, hasBit, withoutBit, bitCount}
 use Rattle.graph.specs.Graph.{Cycle}
 use Rattle.graph.specs.Count.{pathCount}
 use Rattle.graph.specs.Order.{Order}
+use Rattle.sheet.specs.Table.{First}
 use Rattle.sheet.specs.Layout.{countsFrom, rowAt, countAt, edgeAt, redone}
+use Rattle.sheet.specs.Valid.{validConditions}
 use Rattle.sheet.specs.Internal.{successorsSum}
 use Rattle.recount.specs.declared.order.Peeling.{Peeling}
+
+-- k is what the checks of a sheet that has to be valid give: 1, 2, 9; or 0
+abbrev pub SheetNumber : ℕ → List ℕ → ℕ → Type 0
+SheetNumber n s k = First (validConditions n s []) k
 
 -- ---- rows of counts
 

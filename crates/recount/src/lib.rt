@@ -6,7 +6,7 @@ ghost use Rattle.sheet.specs.Layout.{Shape};
 ghost use Rattle.sheet.specs.Valid.{Valid};
 ghost use Rattle.sheet.specs.Internal.{RowsBelow};
 ghost use Rattle.recount.specs.Calls.{Recount, Validate};
-ghost use Rattle.recount.specs.Internal.{counted, Ordered};
+ghost use Rattle.recount.specs.Internal.{SheetNumber, counted, Ordered};
 use sheet::Answer;
 use sheet::Refusal;
 use sheet::Sheet;
@@ -75,4 +75,18 @@ pub fn validate(n: usize, sheet: &[u64]) -> Answer
         return Answer::accepted(1);
     }
     Answer::accepted(0)
+}
+
+// Internal: the number by which a sheet that has to be valid is refused: 1, 2, 9; or 0.
+pub fn sheet_number(n: usize, sheet: &[u64]) -> u64
+    ensures { λ r. ⌜ SheetNumber n (now (sheet .entry)) r ⌝ }
+{
+    let number = sheet::checks::shape_number(n, sheet.len());
+    if number != 0 {
+        return number;
+    }
+    if !is_valid(n, sheet) {
+        return Refusal::NOT_VALID;
+    }
+    0
 }

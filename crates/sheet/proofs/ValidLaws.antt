@@ -1,10 +1,11 @@
 -- A sheet without a cycle whose counts satisfy the recurrence modulo 2 ^ 64 is valid, and a valid sheet's counts satisfy it. A valid
--- sheet is known by its rows. Assumes nothing.
+-- sheet is known by its rows. A call that wants a valid sheet has one where it finds nothing, and finds nothing on one. Assumes nothing.
 use mathlib.Core.Path.{_≡_, sym, ap, subst, _∙_}
-use mathlib.Core.Logic.{_↔_}
-use mathlib.Core.List.{List}
+use mathlib.Core.Logic.{inr, _↔_}
+use mathlib.Core.List.{List, _∷_}
 use Prim.Native.Nat.{ℕ, _+_, _*_, _%_, _^_, _≤_, _<_}
 use native.Mathlib.Nat.{mod-mod, mod-lt, mod-eq-of-lt}
+use native.Mathlib.Decide.{ℕ-discrete}
 use native.Mathlib.Omega.{arith}
 use lib.Pow.{pow-pos}
 use Rattle.sums.specs.Sum.{delta}
@@ -17,10 +18,13 @@ use Rattle.graph.proofs.Lists.{exactly-only}
 use Rattle.graph.proofs.Recurrence.{pathCount-recurrence, pathCount-cong, recurrence-mod-only}
 use Rattle.graph.proofs.Counting.{pathCount-exact}
 use Rattle.graph.proofs.Bound.{paths-below}
+use Rattle.sheet.specs.Table.{_gives_, Conditions, First}
 use Rattle.sheet.specs.Layout.{Shape, rowAt, countAt, edgeAt}
 use Rattle.sheet.specs.Conditions.{StrayRow}
-use Rattle.sheet.specs.Valid.{Valid}
+use Rattle.sheet.specs.Valid.{Valid, validConditions}
 use Rattle.sheet.specs.Internal.{successorsSum, RowHolds}
+use Rattle.sheet.proofs.TableLaws.{first-past}
+use Rattle.sheet.proofs.ShapeLaws.{shape-not, shape-passed}
 use Rattle.sheet.proofs.LayoutLaws.{sheet-ext}
 
 pub edge-le : (s : List ℕ) (i j : ℕ) → edgeAt s i j ≤ 1
@@ -74,3 +78,29 @@ valid-only n s t v v′ h =
     valid-count n s v i j hi hj
     ∙ pathCount-cong n (edgeAt s) (edgeAt t) (λ a b ha hb. ap (λ x. bit x b) (h a ha)) i j hi
     ∙ sym (valid-count n t v′ i j hi hj))
+
+-- ---- what a call that wants a valid sheet looks for
+
+-- a sheet that cannot be other than valid is valid: each count is or is not the number of paths
+valid-stable : (n : ℕ) (s : List ℕ) → Shape n s → ¬ (¬ (Valid n s)) → Valid n s
+valid-stable n s shape d =
+    let acyclic : Acyclic n (edgeAt s) = λ c. d (λ v. v .acyclic c) in
+    record {
+      shape = shape;
+      rows = λ c. d (λ v. v .rows c);
+      acyclic = acyclic;
+      counts = λ i j hi hj.
+          elim (ℕ-discrete (countAt n s i j) (pathCount n (edgeAt s) i j)) [
+            | yes e ↦ rw e (paths-exactly n s (shape .high) acyclic i j hi)
+            | no c ↦ absurd (d (λ v. c (valid-count n s v i j hi hj)))
+          ];
+    }
+
+pub accepted-valid : (n : ℕ) (s : List ℕ) (cs : Conditions) → First (validConditions n s cs) 0 → Valid n s
+accepted-valid n s cs f =
+    let a = first-past f in
+    let b = first-past (a .1) in
+    valid-stable n s (shape-not n s (a .0) (b .0)) (first-past (b .1) .0)
+
+pub valid-passed : (n : ℕ) (s : List ℕ) → Valid n s → (cs : Conditions) (k : ℕ) → First cs k → First (validConditions n s cs) k
+valid-passed n s v cs k f = shape-passed n s (v .shape) ((¬ (Valid n s)) gives 9 ∷ cs) k (inr (λ d. d v, f))

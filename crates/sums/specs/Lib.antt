@@ -1,2 +1,3 @@
 pub mod Sum
 pub mod Modulo
+pub mod Gather

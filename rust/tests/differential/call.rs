@@ -19,14 +19,18 @@ pub enum Call {
         edge_from: usize,
         edge_to: usize,
     },
-    /// The path goes to the buffer for it.
+    /// The path goes to the bytes lent.
     Unrank {
         from: usize,
         to: usize,
         k: u64,
     },
-    /// The path is the one in the buffer for it.
+    /// The path is the bytes lent.
     Rank,
+    /// The plan is the bytes lent.
+    ReadPlan,
+    /// The plan goes to the bytes lent.
+    WritePlan,
     Recount,
     Validate,
 }
@@ -38,11 +42,11 @@ pub enum Edges {
     At { v: usize, predecessors: u64, successors: u64 },
 }
 
-/// The buffers of a case. Calls that take no path are lent no byte.
+/// The buffers of a case. Calls that take no path and no plan are lent no byte.
 #[derive(Clone)]
 pub struct Buffers {
     pub sheet: Vec<u64>,
-    pub path: Vec<u8>,
+    pub bytes: Vec<u8>,
 }
 
 /// What the model is: it takes n, the call and the buffers, changes these as the call does, and answers.
@@ -129,6 +133,22 @@ pub const ALLOWED: &[Outcome] = &[
     numbered("rank", 2),
     numbered("rank", 3),
     numbered("rank", 12),
+    numbered("read_plan", 0),
+    numbered("read_plan", 1),
+    numbered("read_plan", 2),
+    numbered("read_plan", 9),
+    numbered("read_plan", 13),
+    numbered("read_plan", 14),
+    numbered("read_plan", 3),
+    numbered("read_plan", 5),
+    numbered("read_plan", 6),
+    numbered("read_plan", 7),
+    numbered("read_plan", 8),
+    numbered("write_plan", 0),
+    numbered("write_plan", 1),
+    numbered("write_plan", 2),
+    numbered("write_plan", 9),
+    numbered("write_plan", 10),
     numbered("recount", 0),
     numbered("recount", 1),
     numbered("recount", 2),
@@ -141,9 +161,9 @@ pub const ALLOWED: &[Outcome] = &[
 ];
 
 impl Buffers {
-    /// A sheet, and no path.
+    /// A sheet, and no bytes.
     pub fn of_sheet(sheet: Vec<u64>) -> Buffers {
-        Buffers { sheet, path: Vec::new() }
+        Buffers { sheet, bytes: Vec::new() }
     }
 }
 
@@ -179,6 +199,8 @@ impl Call {
             Call::ReachesWithout { .. } => "reaches_without",
             Call::Unrank { .. } => "unrank",
             Call::Rank => "rank",
+            Call::ReadPlan => "read_plan",
+            Call::WritePlan => "write_plan",
             Call::Recount => "recount",
             Call::Validate => "validate",
         }
@@ -193,13 +215,24 @@ impl Call {
         matches!(self, Call::ReachesWithout { .. } | Call::Unrank { .. } | Call::Rank)
     }
 
-    pub fn takes_path(&self) -> bool {
-        matches!(self, Call::Unrank { .. } | Call::Rank)
+    /// Whether it takes a path or a plan.
+    pub fn takes_bytes(&self) -> bool {
+        self.only_reads_bytes() || self.writes_bytes()
+    }
+
+    /// Whether it takes bytes and leaves them alone.
+    pub fn only_reads_bytes(&self) -> bool {
+        matches!(self, Call::Rank | Call::ReadPlan)
+    }
+
+    /// Whether it writes the first of the bytes lent.
+    pub fn writes_bytes(&self) -> bool {
+        matches!(self, Call::Unrank { .. } | Call::WritePlan)
     }
 
     /// Whether it leaves every sheet alone.
     pub fn only_reads_sheet(&self) -> bool {
-        matches!(self, Call::Validate | Call::PathCount { .. }) || self.is_question()
+        matches!(self, Call::Validate | Call::PathCount { .. } | Call::WritePlan) || self.is_question()
     }
 
     /// Whether the value of an accepted call is 1 for yes and 0 for no.

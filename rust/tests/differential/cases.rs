@@ -1,4 +1,4 @@
-//! The random cases: which call or which list of edits, on how many vertices, on what sheet, with what arguments.
+//! The random cases: which call, which list of edits or which plan, on how many vertices, on what sheet, with what arguments.
 
 use crate::arguments::{self, vertex, vertices, wrong_n};
 use crate::asked::{self, Asked};
@@ -8,6 +8,7 @@ use crate::graphs;
 use crate::listing;
 use crate::lists;
 use crate::model;
+use crate::plan_cases;
 use crate::questions::Sheet;
 use crate::rng::Rng;
 use crate::sheets;
@@ -26,16 +27,20 @@ const GENERATORS: &[(usize, Generator)] = &[
     (12, rank),
 ];
 
-/// One round in so many is a list of edits.
+/// One round in so many is a list of edits, and one in so many of the others is a plan.
 const LISTS: usize = 20;
+const PLANS: usize = 6;
 
 /// No sheet of a case is longer, in words.
 const LONGEST: usize = 5_000;
 
-/// The random cases of a round: a single call, or the edits of a list.
+/// The random cases of a round: a single call, the edits of a list, or a plan.
 pub fn make(rng: &mut Rng) -> Vec<Case> {
     if rng.one_in(LISTS) {
         return lists::make(rng, model::answer);
+    }
+    if rng.one_in(PLANS) {
+        return plan_cases::make(rng, model::answer);
     }
     let generator = rng.weighted(GENERATORS);
     vec![generator(rng)]
@@ -80,8 +85,8 @@ fn question(rng: &mut Rng, asked: fn(&mut Rng, usize, &[u64]) -> Asked) -> Case 
     } else {
         of_any_sizes(rng)
     };
-    let (call, path) = asked(rng, n, &sheet);
-    let lent = Buffers { sheet, path };
+    let (call, bytes) = asked(rng, n, &sheet);
+    let lent = Buffers { sheet, bytes };
     let known = if kind == sheets::VALID && model::check_sizes(n, &lent.sheet).is_ok() {
         listing::known(&model::graph_of(n, &lent.sheet), &call, &lent)
     } else {
@@ -123,9 +128,9 @@ fn on_any_sheet(rng: &mut Rng, call: fn(&mut Rng, usize, &[u64]) -> Call) -> Cas
 }
 
 /// An n, a sheet, and its kind.
-type Drawn = (usize, Vec<u64>, &'static str);
+pub type Drawn = (usize, Vec<u64>, &'static str);
 
-fn of_any_sizes(rng: &mut Rng) -> Drawn {
+pub fn of_any_sizes(rng: &mut Rng) -> Drawn {
     match rng.below(16) {
         0 => of_wrong_n(rng),
         1 => of_wrong_length(rng),

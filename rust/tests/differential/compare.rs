@@ -6,7 +6,7 @@ use crate::rng::Rng;
 use lugloquat::sys::Answer;
 use std::fmt;
 
-/// A call with its n and its buffers, and what kind of sheet these hold.
+/// A call with its n and its buffers, and what kind of sheet or plan these hold.
 pub struct Case {
     pub n: usize,
     pub call: Call,
@@ -92,21 +92,21 @@ impl<T: Copy + Into<u64> + PartialEq> Guarded<T> {
 /// The buffers of a case between guards.
 struct AllGuarded {
     sheet: Guarded<u64>,
-    path: Guarded<u8>,
+    bytes: Guarded<u8>,
 }
 
 impl AllGuarded {
     fn new(lent: &Buffers, rng: &mut Rng) -> AllGuarded {
         AllGuarded {
             sheet: Guarded::new(&lent.sheet, Rng::words, rng),
-            path: Guarded::new(&lent.path, Rng::bytes, rng),
+            bytes: Guarded::new(&lent.bytes, Rng::bytes, rng),
         }
     }
 
     fn around(&self, lent: &Buffers) -> AllGuarded {
         AllGuarded {
             sheet: self.sheet.around(&lent.sheet),
-            path: self.path.around(&lent.path),
+            bytes: self.bytes.around(&lent.bytes),
         }
     }
 
@@ -114,14 +114,14 @@ impl AllGuarded {
         Lent {
             sheet: self.sheet.pointer(),
             words: self.sheet.length,
-            path: self.path.pointer(),
-            path_bytes: self.path.length,
+            bytes: self.bytes.pointer(),
+            length: self.bytes.length,
         }
     }
 
     fn difference(&self, library: &AllGuarded) -> Option<Difference> {
         let of_sheet = self.sheet.difference("word of the sheet", &library.sheet);
-        of_sheet.or_else(|| self.path.difference("byte of the path", &library.path))
+        of_sheet.or_else(|| self.bytes.difference("byte lent", &library.bytes))
     }
 }
 
@@ -167,18 +167,19 @@ fn compare_by(way: &Way, case: &Case, modelled: &Wanted, rng: &mut Rng) -> Resul
 impl Case {
     /// Whether a buffer that the call takes has length 0.
     fn lends_empty(&self) -> bool {
-        self.lent.sheet.is_empty() || (self.call.takes_path() && self.lent.path.is_empty())
+        self.lent.sheet.is_empty() || (self.call.takes_bytes() && self.lent.bytes.is_empty())
     }
 }
 
 impl fmt::Display for Case {
     fn fmt(&self, f: &mut fmt::Formatter<'_>) -> fmt::Result {
-        let (call, n, words, path) = (&self.call, self.n, self.lent.sheet.len(), &self.lent.path);
-        write!(f, "{call:?}, n {n}, {words} words, sheet: {}", self.kind)?;
-        if self.call.takes_path() {
-            write!(f, ", path: {} bytes {path:?}", path.len())?;
+        let (call, n, words, bytes) = (&self.call, self.n, self.lent.sheet.len(), &self.lent.bytes);
+        write!(f, "{call:?}, n {n}, {words} words, kind: {}", self.kind)?;
+        match self.call {
+            Call::ReadPlan | Call::WritePlan => write!(f, ", plan: {} bytes {}", bytes.len(), bytes.escape_ascii()),
+            Call::Unrank { .. } | Call::Rank => write!(f, ", path: {} bytes {bytes:?}", bytes.len()),
+            _ => Ok(()),
         }
-        Ok(())
     }
 }
 

@@ -6,11 +6,15 @@ use crate::compare::{compare, Case};
 use crate::faulty_edits;
 use crate::faulty_models::{self, ANY};
 use crate::faulty_paths;
+use crate::faulty_plans;
 use crate::faulty_questions;
+use crate::faulty_records;
+use crate::faulty_written;
 use crate::library::{by_c, Lent, Library, Way, BY_C, BY_WRAPPER};
 use crate::listing::LIST;
 use crate::lists::{self, BOOK, START};
 use crate::model;
+use crate::plan_cases::{self, UNDONE, WRITTEN};
 use crate::rng::Rng;
 use lugloquat::sys::Answer;
 use std::ops::BitXorAssign;
@@ -50,6 +54,9 @@ fn of_models() -> impl Iterator<Item = (&'static str, &'static str, Model)> {
         faulty_edits::FAULTS,
         faulty_questions::FAULTS,
         faulty_paths::FAULTS,
+        faulty_plans::FAULTS,
+        faulty_records::FAULTS,
+        faulty_written::FAULTS,
     ];
     let all = all.into_iter().flatten();
     all.flat_map(|&(call, faults)| faults.iter().map(move |&(fault, model)| (call, fault, model)))
@@ -124,24 +131,24 @@ const LIBRARIES: &[(&str, Library)] = &[
         let reads = call.only_reads_sheet();
         changing(n, call, lent, |_| last_word(lent).filter(|_| reads))
     }),
-    ("writes the byte before the path", |n, call, lent| unsafe {
-        changing(n, call, lent, |_| Some(lent.path.wrapping_sub(1)))
+    ("writes the byte before the bytes lent", |n, call, lent| unsafe {
+        changing(n, call, lent, |_| Some(lent.bytes.wrapping_sub(1)))
     }),
-    ("writes the byte after the path", |n, call, lent| unsafe {
-        changing(n, call, lent, |_| Some(lent.path.wrapping_add(lent.path_bytes)))
+    ("writes the byte after the bytes lent", |n, call, lent| unsafe {
+        changing(n, call, lent, |_| Some(lent.bytes.wrapping_add(lent.length)))
     }),
     ("writes the last byte when it refuses", |n, call, lent| unsafe {
         changing(n, call, lent, |answer| last_byte(lent).filter(|_| answer.number != 0))
     }),
     ("writes the last byte when it should only read", |n, call, lent| unsafe {
-        let reads = matches!(call, Call::Rank);
+        let reads = call.only_reads_bytes();
         changing(n, call, lent, |_| last_byte(lent).filter(|_| reads))
     }),
-    ("writes the byte after a path found", |n, call, lent| unsafe {
-        let finds = matches!(call, Call::Unrank { .. });
+    ("writes the byte after a path found or a plan", |n, call, lent| unsafe {
+        let writes = call.writes_bytes();
         changing(n, call, lent, |answer| {
-            let rest = finds && answer.number == 0 && (answer.value as usize) < lent.path_bytes;
-            rest.then(|| lent.path.wrapping_add(answer.value as usize))
+            let rest = writes && answer.number == 0 && (answer.value as usize) < lent.length;
+            rest.then(|| lent.bytes.wrapping_add(answer.value as usize))
         })
     }),
 ];
@@ -166,7 +173,7 @@ fn last_word(lent: Lent) -> Option<*mut u64> {
 }
 
 fn last_byte(lent: Lent) -> Option<*mut u8> {
-    (lent.path_bytes > 0).then(|| lent.path.wrapping_add(lent.path_bytes - 1))
+    (lent.length > 0).then(|| lent.bytes.wrapping_add(lent.length - 1))
 }
 
 /// A fault that the model and the library have alike, who has to notice it, and in which cases.
@@ -207,6 +214,9 @@ const ALIKE: &[Alike] = alike! {
     "the highest vertex is tried first", LIST, questions, faulty_paths::highest_first;
     "the vertex gone to counts too", LIST, questions, faulty_paths::passing_the_next;
     "the counts are those to the next vertex", LIST, questions, faulty_paths::counting_to_the_next;
+    "the last edge is left out of a plan", WRITTEN, plan_cases::make, faulty_written::last_edge_left_out;
+    "the vertices of a plan are exchanged", WRITTEN, plan_cases::make, faulty_written::vertices_exchanged;
+    "the deletions of a plan are made first", UNDONE, plan_cases::make, faulty_records::deletions_first;
 };
 
 /// Runs cases until one of them fails where it is held to what is known without the model.
@@ -233,10 +243,10 @@ fn check_alike(seed: u64, fault: &Alike) -> Result<(), String> {
 /// As for [`Library`].
 unsafe fn as_library(model: Model, n: usize, call: &Call, lent: Lent) -> Answer {
     let words = slice::from_raw_parts_mut(lent.sheet, lent.words);
-    let bytes = slice::from_raw_parts_mut(lent.path, lent.path_bytes);
-    let mut copy = Buffers { sheet: words.to_vec(), path: bytes.to_vec() };
+    let bytes = slice::from_raw_parts_mut(lent.bytes, lent.length);
+    let mut copy = Buffers { sheet: words.to_vec(), bytes: bytes.to_vec() };
     let answer = model(n, call, &mut copy);
     words.copy_from_slice(&copy.sheet);
-    bytes.copy_from_slice(&copy.path);
+    bytes.copy_from_slice(&copy.bytes);
     answer
 }

@@ -31,7 +31,7 @@ pub fn when(
     answer
 }
 
-/// The right answer and path, and the right counts of a recount, for a changed sheet in place of the one lent.
+/// The right answer and bytes, and the right counts of a recount, for a changed sheet in place of the one lent.
 pub fn as_if(n: usize, call: &Call, lent: &mut Buffers, change: impl Fn(usize, &mut [u64])) -> Answer {
     if model::check_sizes(n, &lent.sheet).is_err() {
         return right(n, call, lent);
@@ -42,7 +42,7 @@ pub fn as_if(n: usize, call: &Call, lent: &mut Buffers, change: impl Fn(usize, &
     if matches!(call, Call::Recount) && is_accepted(&answer) {
         lent.sheet[n..].copy_from_slice(&seen.sheet[n..]);
     }
-    lent.path = seen.path;
+    lent.bytes = seen.bytes;
     answer
 }
 

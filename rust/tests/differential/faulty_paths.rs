@@ -24,16 +24,16 @@ const OF_UNRANK: Faults = &[
         letting_in(n, call, lent, |k, count| k == count)
     }),
     ("11 is looked for before 10", |n, call, lent| {
-        let mut enough = Buffers { path: vec![0; 64], ..lent.clone() };
+        let mut enough = Buffers { bytes: vec![0; 64], ..lent.clone() };
         let none = right(n, call, &mut enough).number == 11;
         renumbered(n, call, lent, (10, 11), none)
     }),
     ("10 is looked for before 3", |n, call, lent| {
-        let short = lent.path.len() < n;
+        let short = lent.bytes.len() < n;
         renumbered(n, call, lent, (3, 10), short)
     }),
     ("a buffer of n − 1 bytes is let in", |n, call, lent| {
-        if lent.path.len().checked_add(1) == Some(n) {
+        if lent.bytes.len().checked_add(1) == Some(n) {
             with_room(n, call, lent)
         } else {
             right(n, call, lent)
@@ -42,7 +42,7 @@ const OF_UNRANK: Faults = &[
     ("a buffer is long enough if the path fits in", |n, call, lent| {
         let mut room = lent.clone();
         let found = with_room(n, call, &mut room);
-        if is_accepted(&found) && found.value as usize <= lent.path.len() {
+        if is_accepted(&found) && found.value as usize <= lent.bytes.len() {
             *lent = room;
             found
         } else {
@@ -50,7 +50,7 @@ const OF_UNRANK: Faults = &[
         }
     }),
     ("a longer buffer is refused", |n, call, lent| {
-        let long = lent.path.len() > n;
+        let long = lent.bytes.len() > n;
         refusing(n, call, lent, 10, |_| long)
     }),
     ("k is taken modulo 2 to the 32", |n, call, lent| match *call {
@@ -178,22 +178,22 @@ const OF_WRITING: Faults = &[
 
 const OF_RANK: Faults = &[
     ("12 is looked for before 3", |n, call, lent| {
-        let long = lent.path.len() > n;
+        let long = lent.bytes.len() > n;
         renumbered(n, call, lent, (3, 12), long)
     }),
     ("3 and 12 are looked for vertex by vertex", |n, call, lent| {
         let inside = |vertex: &u8| usize::from(*vertex) < n;
-        let before: Vec<u8> = lent.path.iter().copied().take_while(inside).collect();
+        let before: Vec<u8> = lent.bytes.iter().copied().take_while(inside).collect();
         let right_sizes = model::check_sizes(n, &lent.sheet).is_ok();
         let broken = right_sizes && !along_edges(&Sheet { n, words: &lent.sheet }, &before);
         renumbered(n, call, lent, (3, 12), broken)
     }),
     ("3 is looked for in the first n bytes", |n, call, lent| {
-        let first_below = lent.path.iter().take(n).all(|&vertex| usize::from(vertex) < n);
+        let first_below = lent.bytes.iter().take(n).all(|&vertex| usize::from(vertex) < n);
         renumbered(n, call, lent, (3, 12), first_below)
     }),
     ("3 is looked for in the first byte", |n, call, lent| {
-        let first_below = lent.path.first().is_some_and(|&vertex| usize::from(vertex) < n);
+        let first_below = lent.bytes.first().is_some_and(|&vertex| usize::from(vertex) < n);
         renumbered(n, call, lent, (3, 12), first_below)
     }),
     ("vertex n is let in", |n, call, lent| {
@@ -206,23 +206,23 @@ const OF_RANK: Faults = &[
         taking(n, call, lent, |path| path.iter_mut().for_each(|vertex| *vertex %= 64))
     }),
     ("no vertices are let in", |n, call, lent| {
-        let none = lent.path.is_empty();
+        let none = lent.bytes.is_empty();
         accepting(n, call, lent, |_, _| none)
     }),
     ("more than n vertices are let in", |n, call, lent| {
-        let long = lent.path.len() > n;
+        let long = lent.bytes.len() > n;
         accepting(n, call, lent, |sheet, path| long && along_edges(&sheet, path))
     }),
     ("two neighbours without an edge are let in", |n, call, lent| {
-        let right_length = (1..=n).contains(&lent.path.len());
+        let right_length = (1..=n).contains(&lent.bytes.len());
         accepting(n, call, lent, |_, _| right_length)
     }),
     ("the first edge is not looked at", |n, call, lent| {
-        let right_length = (1..=n).contains(&lent.path.len());
+        let right_length = (1..=n).contains(&lent.bytes.len());
         accepting(n, call, lent, |sheet, path| right_length && along_edges(&sheet, &path[1..]))
     }),
     ("the last edge is not looked at", |n, call, lent| {
-        let right_length = (1..=n).contains(&lent.path.len());
+        let right_length = (1..=n).contains(&lent.bytes.len());
         accepting(n, call, lent, |sheet, path| {
             right_length && along_edges(&sheet, &path[..path.len() - 1])
         })
@@ -287,7 +287,7 @@ const OF_SUMS: Faults = &[
         summing(n, call, lent, Passing { counted: |_, _, _| 1, ..PASSING })
     }),
     ("the sum stops at the greatest number", |n, call, lent| {
-        let path = lent.path.clone();
+        let path = lent.bytes.clone();
         when(n, call, lent, is_accepted, |n, answer, words| {
             let passed = PASSING.counts(&Sheet { n, words }, &path);
             answer.value = passed.into_iter().fold(0, u64::saturating_add);
@@ -344,7 +344,7 @@ pub fn counting_to_the_next(n: usize, call: &Call, lent: &mut Buffers) -> Answer
 fn walking(n: usize, call: &Call, lent: &mut Buffers, walk: Walk) -> Answer {
     match *call {
         Call::Unrank { from, to, k } => {
-            questions::unrank(n, &lent.sheet, (from, to), k, &mut lent.path, &walk).map_or_else(refused, accepted)
+            questions::unrank(n, &lent.sheet, (from, to), k, &mut lent.bytes, &walk).map_or_else(refused, accepted)
         }
         _ => right(n, call, lent),
     }
@@ -362,7 +362,7 @@ fn letting_in(n: usize, call: &Call, lent: &mut Buffers, rule: impl Fn(u64, u64)
     }
     match WALK.find(&sheet, from, to, k) {
         Ok(vertices) => {
-            questions::write_path(&vertices, &mut lent.path);
+            questions::write_path(&vertices, &mut lent.bytes);
             accepted(vertices.len() as u64)
         }
         Err(_) => refused(9),
@@ -372,10 +372,10 @@ fn letting_in(n: usize, call: &Call, lent: &mut Buffers, rule: impl Fn(u64, u64)
 /// The right answer as if the buffer had the bytes of the longest path. As much is written as it has.
 fn with_room(n: usize, call: &Call, lent: &mut Buffers) -> Answer {
     let mut room = lent.clone();
-    room.path.resize(lent.path.len().max(64), 0);
+    room.bytes.resize(lent.bytes.len().max(64), 0);
     let answer = right(n, call, &mut room);
-    let length = lent.path.len();
-    lent.path.copy_from_slice(&room.path[..length]);
+    let length = lent.bytes.len();
+    lent.bytes.copy_from_slice(&room.bytes[..length]);
     answer
 }
 
@@ -389,13 +389,13 @@ fn put_diagonal(n: usize, sheet: &mut [u64], vertex: usize) {
 /// The right number of another list of vertices.
 fn taking(n: usize, call: &Call, lent: &mut Buffers, change: impl Fn(&mut Vec<u8>)) -> Answer {
     let mut other = lent.clone();
-    change(&mut other.path);
+    change(&mut other.bytes);
     right(n, call, &mut other)
 }
 
 /// The right answer, but a list of vertices that is no path is accepted if the rule says so.
 fn accepting(n: usize, call: &Call, lent: &mut Buffers, rule: impl Fn(Sheet, &[u8]) -> bool) -> Answer {
-    let path = lent.path.clone();
+    let path = lent.bytes.clone();
     when(
         n,
         call,
@@ -413,7 +413,7 @@ fn accepting(n: usize, call: &Call, lent: &mut Buffers, rule: impl Fn(Sheet, &[u
 /// The model with another sum.
 fn summing(n: usize, call: &Call, lent: &mut Buffers, passing: Passing) -> Answer {
     match *call {
-        Call::Rank => questions::rank(n, &lent.sheet, &lent.path, &passing).map_or_else(refused, accepted),
+        Call::Rank => questions::rank(n, &lent.sheet, &lent.bytes, &passing).map_or_else(refused, accepted),
         _ => right(n, call, lent),
     }
 }

@@ -209,10 +209,10 @@ pub fn rewriting(
     such: impl Fn(&Answer) -> bool,
     change: impl Fn(&mut Answer, &[u8], &mut [u8]),
 ) -> Answer {
-    let before = lent.path.clone();
+    let before = lent.bytes.clone();
     let mut answer = right(n, call, lent);
     if such(&answer) {
-        change(&mut answer, &before, &mut lent.path);
+        change(&mut answer, &before, &mut lent.bytes);
     }
     answer
 }

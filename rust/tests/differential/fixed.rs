@@ -5,12 +5,14 @@ use crate::agreement;
 use crate::book::Book;
 use crate::call::{accepted, refused, Buffers, Call, Edges};
 use crate::compare::{compare, Case};
+use crate::fixed_plans;
 use crate::fixed_questions;
 use crate::graphs;
 use crate::library::WAYS;
 use crate::model::{self, Graph};
 use crate::rng::Rng;
 use crate::sheets;
+use crate::small_plans;
 use lugloquat::sys::Answer;
 
 /// What has been run so far.
@@ -38,6 +40,8 @@ pub fn check(seed: u64) -> Result<Fixed, String> {
     fixed.every_small_graph()?;
     fixed.every_small_edit()?;
     fixed_questions::check(&mut fixed)?;
+    fixed_plans::check(&mut fixed)?;
+    small_plans::check(&mut fixed)?;
     Ok(fixed)
 }
 
@@ -54,8 +58,8 @@ impl Fixed {
         }
     }
 
-    /// Runs a call that takes no path. The sheet then has the words that it leaves.
-    fn step(&mut self, n: usize, call: Call, sheet: &mut Vec<u64>, wanted: Answer) -> Done {
+    /// Runs a call that is lent no bytes. The sheet then has the words that it leaves.
+    pub fn step(&mut self, n: usize, call: Call, sheet: &mut Vec<u64>, wanted: Answer) -> Done {
         let lent = Buffers::of_sheet(sheet.clone());
         let case = Case { n, call, lent, kind: KIND, known: None };
         *sheet = self.run(&case, wanted)?.sheet;
@@ -82,6 +86,8 @@ impl Fixed {
             Call::ReachesWithout { from: 0, to: 0, edge_from: 0, edge_to: 0 },
             Call::Unrank { from: 0, to: 0, k: 0 },
             Call::Rank,
+            Call::ReadPlan,
+            Call::WritePlan,
             Call::Recount,
             Call::Validate,
         ];
@@ -94,13 +100,8 @@ impl Fixed {
         Ok(())
     }
 
-    /// Document 01's D with the counts of its listing, then with the edge that closes a cycle.
-    fn graph_d(&mut self) -> Done {
-        let (n, mut sheet) = (5, self.rng.words(30));
-        self.step(n, Call::Empty, &mut sheet, accepted(0))?;
-        (sheet[0], sheet[1], sheet[2]) = (1 << 1 | 1 << 2, 1 << 3, 1 << 3);
-        self.step(n, Call::Validate, &mut sheet, accepted(0))?;
-        self.step(n, Call::Recount, &mut sheet, accepted(4))?;
+    /// Every count of D, among n vertices.
+    pub fn counts_of_d(&mut self, n: usize, sheet: &mut Vec<u64>) -> Done {
         for from in 0..n {
             for to in 0..n {
                 let count = match (from, to) {
@@ -108,9 +109,20 @@ impl Fixed {
                     (0, 1) | (0, 2) | (1, 3) | (2, 3) => 1,
                     _ => u64::from(from == to),
                 };
-                self.step(n, Call::PathCount { from, to }, &mut sheet, accepted(count))?;
+                self.step(n, Call::PathCount { from, to }, sheet, accepted(count))?;
             }
         }
+        Ok(())
+    }
+
+    /// Document 01's D with the counts of its listing, then with the edge that closes a cycle.
+    fn graph_d(&mut self) -> Done {
+        let (n, mut sheet) = (5, self.rng.words(30));
+        self.step(n, Call::Empty, &mut sheet, accepted(0))?;
+        (sheet[0], sheet[1], sheet[2]) = (1 << 1 | 1 << 2, 1 << 3, 1 << 3);
+        self.step(n, Call::Validate, &mut sheet, accepted(0))?;
+        self.step(n, Call::Recount, &mut sheet, accepted(4))?;
+        self.counts_of_d(n, &mut sheet)?;
         self.step(n, Call::Validate, &mut sheet, accepted(1))?;
         sheet[3] = 1;
         self.step(n, Call::Recount, &mut sheet, refused(8))?;

@@ -26,7 +26,7 @@ pub fn check(fixed: &mut Fixed) -> Done {
 
 impl Fixed {
     fn ask(&mut self, n: usize, call: Call, sheet: &[u64], path: &[u8], wanted: Answer) -> Result<Buffers, String> {
-        let lent = Buffers { sheet: sheet.to_vec(), path: path.to_vec() };
+        let lent = Buffers { sheet: sheet.to_vec(), bytes: path.to_vec() };
         let case = Case { n, call, lent, kind: KIND, known: None };
         self.run(&case, wanted)
     }
@@ -41,12 +41,12 @@ impl Fixed {
         let after = self.ask(n, unrank(ends, k), sheet, &bytes, accepted(path.len() as u64))?;
         let mut wanted = path.to_vec();
         wanted.extend_from_slice(&bytes[path.len()..]);
-        if after.path == wanted {
+        if after.bytes == wanted {
             Ok(())
         } else {
             Err(format!(
                 "path {k} of {ends:?}: wanted the bytes {wanted:?}, got {:?}",
-                after.path
+                after.bytes
             ))
         }
     }
@@ -210,7 +210,7 @@ impl Fixed {
     }
 
     fn small_question(&mut self, graph: &Graph, call: Call, path: Vec<u8>) -> Done {
-        let lent = Buffers { sheet: sheets::valid_sheet_of(graph), path };
+        let lent = Buffers { sheet: sheets::valid_sheet_of(graph), bytes: path };
         let known = listing::known(graph, &call, &lent).ok_or_else(|| format!("{call:?} of {graph:?}: not known"))?;
         let wanted = known.answer;
         let case = Case { n: graph.len(), call, lent, kind: KIND, known: Some(known) };

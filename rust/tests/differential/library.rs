@@ -9,8 +9,8 @@ use std::{ptr, slice};
 pub struct Lent {
     pub sheet: *mut u64,
     pub words: usize,
-    pub path: *mut u8,
-    pub path_bytes: usize,
+    pub bytes: *mut u8,
+    pub length: usize,
 }
 
 /// A function that makes a call. Whoever calls it vouches that the words and the bytes stand where `Lent` says.
@@ -48,7 +48,7 @@ pub const WAYS: &[Way] = &[BY_C, BY_WRAPPER, BY_C_WITH_NULL];
 /// # Safety
 /// As for [`Library`].
 pub unsafe fn by_c(n: usize, call: &Call, lent: Lent) -> Answer {
-    let Lent { sheet, words, path, path_bytes } = lent;
+    let Lent { sheet, words, bytes, length } = lent;
     match *call {
         Call::Empty => sys::lugloquat_empty(n, sheet, words),
         Call::Insert(Edges::One { from, to }) => sys::lugloquat_insert_edge(n, sheet, words, from, to),
@@ -63,8 +63,10 @@ pub unsafe fn by_c(n: usize, call: &Call, lent: Lent) -> Answer {
         Call::ReachesWithout { from, to, edge_from, edge_to } => {
             sys::lugloquat_reaches_without(n, sheet, words, from, to, edge_from, edge_to)
         }
-        Call::Unrank { from, to, k } => sys::lugloquat_unrank(n, sheet, words, from, to, k, path, path_bytes),
-        Call::Rank => sys::lugloquat_rank(n, sheet, words, path, path_bytes),
+        Call::Unrank { from, to, k } => sys::lugloquat_unrank(n, sheet, words, from, to, k, bytes, length),
+        Call::Rank => sys::lugloquat_rank(n, sheet, words, bytes, length),
+        Call::ReadPlan => sys::lugloquat_read_plan(n, sheet, words, bytes, length),
+        Call::WritePlan => sys::lugloquat_write_plan(n, sheet, words, bytes, length),
         Call::Recount => sys::lugloquat_recount(n, sheet, words),
         Call::Validate => sys::lugloquat_validate(n, sheet, words),
     }
@@ -72,14 +74,14 @@ pub unsafe fn by_c(n: usize, call: &Call, lent: Lent) -> Answer {
 
 unsafe fn by_c_with_null(n: usize, call: &Call, lent: Lent) -> Answer {
     let sheet = if lent.words == 0 { ptr::null_mut() } else { lent.sheet };
-    let path = if lent.path_bytes == 0 { ptr::null_mut() } else { lent.path };
-    by_c(n, call, Lent { sheet, path, ..lent })
+    let bytes = if lent.length == 0 { ptr::null_mut() } else { lent.bytes };
+    by_c(n, call, Lent { sheet, bytes, ..lent })
 }
 
 /// The wrapper's result, written as an answer: it shows no place when accepted and no value when refused.
 unsafe fn by_wrapper(n: usize, call: &Call, lent: Lent) -> Answer {
     let sheet = slice::from_raw_parts_mut(lent.sheet, lent.words);
-    let path = slice::from_raw_parts_mut(lent.path, lent.path_bytes);
+    let bytes = slice::from_raw_parts_mut(lent.bytes, lent.length);
     let result = match *call {
         Call::Empty => lugloquat::empty(n, sheet),
         Call::Insert(Edges::One { from, to }) => lugloquat::insert_edge(n, sheet, from, to),
@@ -94,8 +96,10 @@ unsafe fn by_wrapper(n: usize, call: &Call, lent: Lent) -> Answer {
         Call::ReachesWithout { from, to, edge_from, edge_to } => {
             lugloquat::reaches_without(n, sheet, from, to, edge_from, edge_to)
         }
-        Call::Unrank { from, to, k } => lugloquat::unrank(n, sheet, from, to, k, path),
-        Call::Rank => lugloquat::rank(n, sheet, path),
+        Call::Unrank { from, to, k } => lugloquat::unrank(n, sheet, from, to, k, bytes),
+        Call::Rank => lugloquat::rank(n, sheet, bytes),
+        Call::ReadPlan => lugloquat::read_plan(n, sheet, bytes),
+        Call::WritePlan => lugloquat::write_plan(n, sheet, bytes),
         Call::Recount => lugloquat::recount(n, sheet),
         Call::Validate => lugloquat::validate(n, sheet),
     };

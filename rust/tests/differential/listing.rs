@@ -27,8 +27,8 @@ pub fn known(graph: &Graph, call: &Call, lent: &Buffers) -> Option<Wanted> {
         Call::ReachesWithout { from, to, edge_from, edge_to } if [from, to, edge_from, edge_to].iter().all(|&v| v < n) => {
             reaches_without(graph, (from, to), (edge_from, edge_to))
         }
-        Call::Unrank { from, to, k } if from < n && to < n => unrank(graph, (from, to), k, &mut after.path)?,
-        Call::Rank if lent.path.iter().all(|&v| usize::from(v) < n) => rank(graph, &lent.path)?,
+        Call::Unrank { from, to, k } if from < n && to < n => unrank(graph, (from, to), k, &mut after.bytes)?,
+        Call::Rank if lent.bytes.iter().all(|&v| usize::from(v) < n) => rank(graph, &lent.bytes)?,
         _ => return None,
     };
     let answer = verdict.map_or_else(refused, accepted);

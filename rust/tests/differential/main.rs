@@ -1,4 +1,4 @@
-//! The library against a plain model of document 01, by random calls on random sheets and by lists of edits.
+//! The library against a plain model of document 01, by random calls on random sheets, by lists of edits and by plans.
 //!
 //! `LUGLOQUAT_SEED` gives another seed, `LUGLOQUAT_CALLS` another number of library calls, both in decimal. The exit status is
 //! not 0 if the library and the model disagree anywhere, if a fault put in on purpose goes unnoticed, or if too little came up.
@@ -13,24 +13,34 @@ mod book;
 mod call;
 mod cases;
 mod compare;
+mod damaged;
 mod edits;
 mod faults;
 mod faulty;
 mod faulty_edits;
 mod faulty_models;
 mod faulty_paths;
+mod faulty_plans;
 mod faulty_questions;
+mod faulty_records;
+mod faulty_written;
 mod fixed;
+mod fixed_plans;
 mod fixed_questions;
 mod graphs;
 mod library;
 mod listing;
 mod lists;
 mod model;
+mod plan_cases;
+mod plan_tally;
+mod planned;
+mod plans;
 mod questions;
 mod recurrence;
 mod rng;
 mod sheets;
+mod small_plans;
 mod tally;
 
 use rng::Rng;

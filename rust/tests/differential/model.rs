@@ -5,6 +5,7 @@
 
 use crate::call::{accepted, refused, Buffers, Call};
 use crate::edits::{self, DELETION, INSERTION};
+use crate::plans::{self, READING, WRITING};
 use crate::questions::{self, PASSING, WALK};
 use lugloquat::sys::Answer;
 
@@ -30,8 +31,10 @@ pub fn answer(n: usize, call: &Call, lent: &mut Buffers) -> Answer {
         Call::ReachesWithout { from, to, edge_from, edge_to } => {
             questions::reaches_without(n, &lent.sheet, (from, to), (edge_from, edge_to))
         }
-        Call::Unrank { from, to, k } => questions::unrank(n, &lent.sheet, (from, to), k, &mut lent.path, &WALK),
-        Call::Rank => questions::rank(n, &lent.sheet, &lent.path, &PASSING),
+        Call::Unrank { from, to, k } => questions::unrank(n, &lent.sheet, (from, to), k, &mut lent.bytes, &WALK),
+        Call::Rank => questions::rank(n, &lent.sheet, &lent.bytes, &PASSING),
+        Call::ReadPlan => return plans::read(n, lent, &READING),
+        Call::WritePlan => plans::write(n, &lent.sheet, &mut lent.bytes, &WRITING),
         Call::Recount => recount(n, &mut lent.sheet),
         Call::Validate => validate(n, &lent.sheet),
     };
@@ -67,7 +70,8 @@ fn recount(n: usize, sheet: &mut [u64]) -> Verdict {
     }
 }
 
-fn validate(n: usize, sheet: &[u64]) -> Verdict {
+/// Whether the sheet is valid: 1 or 0.
+pub fn validate(n: usize, sheet: &[u64]) -> Verdict {
     check_sizes(n, sheet)?;
     if has_stray_bit(n, sheet) {
         return Ok(0);

@@ -209,7 +209,7 @@ pub fn ground(n: usize, call: &Call, lent: &Buffers, number: u64) -> Option<&'st
     let sheet = Sheet { n, words: &lent.sheet };
     match (*call, number) {
         (Call::Unrank { from, to, k }, 9) => WALK.find(&sheet, from, to, k).err(),
-        (Call::Rank, 12) => why_no_path(&sheet, &lent.path),
+        (Call::Rank, 12) => why_no_path(&sheet, &lent.bytes),
         _ => None,
     }
 }

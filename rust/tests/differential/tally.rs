@@ -1,9 +1,10 @@
-//! How often each outcome, each n and each kind of sheet came up, and whether that is often enough.
+//! How often each outcome, each n and each kind of sheet and plan came up, and whether that is often enough.
 
 use crate::call::{Call, Outcome, ALLOWED};
 use crate::compare::{Case, Compared};
 use crate::listing::LIST;
 use crate::lists::{BOOK, START};
+use crate::plan_tally::PlanTally;
 use crate::questions;
 use crate::sheets;
 use std::collections::BTreeMap;
@@ -23,6 +24,9 @@ pub struct Tally {
     recounts: [u64; 65],
     edits_accepted: [u64; 65],
     questions_accepted: [u64; 65],
+    plans_read: [u64; 65],
+    plans_written: [u64; 65],
+    plans: PlanTally,
     /// The cases of each question about paths, and of these the ones held to the list of paths.
     questions: BTreeMap<&'static str, (u64, u64)>,
     /// The grounds of 9 and 12.
@@ -44,6 +48,9 @@ impl Tally {
             recounts: [0; 65],
             edits_accepted: [0; 65],
             questions_accepted: [0; 65],
+            plans_read: [0; 65],
+            plans_written: [0; 65],
+            plans: PlanTally::new(),
             questions: QUESTIONS.map(|call| (call, (0, 0))).into(),
             grounds: questions::GROUNDS.map(|ground| (ground, 0)).into(),
             by_book: 0,
@@ -61,7 +68,9 @@ impl Tally {
         };
         self.calls += compared.calls;
         self.outcomes[at] += 1;
-        *self.kinds.entry(case.kind).or_default() += 1;
+        if !self.plans.enter(case, &compared.answer) {
+            *self.kinds.entry(case.kind).or_default() += 1;
+        }
         if case.call.is_edit() {
             self.edits += compared.calls;
         }
@@ -69,6 +78,8 @@ impl Tally {
             match case.call {
                 Call::Recount => self.recounts[case.n] += 1,
                 Call::Insert(_) | Call::Delete(_) => self.edits_accepted[case.n] += 1,
+                Call::ReadPlan => self.plans_read[case.n] += 1,
+                Call::WritePlan => self.plans_written[case.n] += 1,
                 _ if case.call.is_question() => self.questions_accepted[case.n] += 1,
                 _ => (),
             }
@@ -113,6 +124,7 @@ impl Tally {
         for (ground, times) in &self.grounds {
             println!("refused, {ground}: {times}");
         }
+        self.plans.print();
         println!("edits held to the book: {}", self.by_book);
         println!(
             "lists back at their start: {} on valid sheets, {} on others",
@@ -121,11 +133,13 @@ impl Tally {
     }
 
     /// What was accepted, for each n.
-    fn accepted(&self) -> [(&'static str, &[u64; 65]); 3] {
+    fn accepted(&self) -> [(&'static str, &[u64; 65]); 5] {
         [
             ("recounts", &self.recounts),
             ("edits", &self.edits_accepted),
             ("questions about paths", &self.questions_accepted),
+            ("plans read", &self.plans_read),
+            ("plans written", &self.plans_written),
         ]
     }
 
@@ -153,9 +167,9 @@ impl Tally {
                 return Err(format!("{what}: {times}, fewer than {LEAST}"));
             }
         }
-        match self.kinds.iter().find(|(_, &times)| times == 0) {
-            Some((kind, _)) => Err(format!("no sheet of this kind came up: {kind}")),
-            None => Ok(()),
+        if let Some((kind, _)) = self.kinds.iter().find(|(_, &times)| times == 0) {
+            return Err(format!("no sheet of this kind came up: {kind}"));
         }
+        self.plans.check()
     }
 }

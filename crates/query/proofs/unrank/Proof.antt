@@ -1,9 +1,11 @@
 -- `query::unrank` meets its contract: each way out is a law of CallLaws. Assumes nothing.
-use mathlib.Core.Path.{refl}
+use mathlib.Core.Path.{refl, sym}
 use native.Mathlib.Omega.{arith}
 use borrow.Author.Needs.{needs}
 use lib.ListN.{length}
+use Rattle.text.proofs.TextLaws.{put-written}
 use Rattle.query.proofs.CheckLaws.{walk-ready}
+use Rattle.query.proofs.AsideLaws.{aside-within, aside-taken}
 use Rattle.query.proofs.CallLaws.{unrank-stops, unrank-stops-kept, unrank-astray, unrank-astray-kept, unrank-arrived, unrank-arrived-bytes}
 use Rattle.query.proofs.unrank.Statement.{statement}
 use Rattle.query.proofs.unrank.Tie as tie
@@ -23,7 +25,7 @@ returns-3 c =
       unrank-arrived (a .n) (a .sheet .now) (a .from) (a .to) (a .k) (a .path .now) _ number (walk .before .before .if1 .left) _ _ (walk .walk-aside .ensures) (c .before .before .before .before .before .before .if2 .left)
           high _ (c .accepted .ensures),
       unrank-arrived-bytes (a .n) (a .sheet .now) (a .from) (a .to) (a .k) (a .path .now) _ number (walk .before .before .if1 .left) _ _ (walk .walk-aside .ensures) (c .before .before .before .before .before .before .if2 .left)
-          high _ (c .before .before .before .copy .ensures),
+          high _ (put-written (a .path .now) _ _ _ (c .before .before .before .put .ensures) .1),
     )
 
 walk-number-requires : tie.Need-walk-number-requires
@@ -41,12 +43,26 @@ walk-aside-requires c κs =
 refused-requires-2 : tie.Need-refused-requires-2
 refused-requires-2 c κs = search needs
 
-copy-requires : tie.Need-copy-requires
-copy-requires c κs =
-    let a = c .before .before .before .before .before .before .before .before .before .args in
-    let r = walk-ready (a .n) (a .sheet .now) (a .from) (a .to) (a .k) (length (a .path .now)) _ (c .before .before .before .before .before .before .walk-number .ensures) (c .before .before .before .before .before .if1 .left) in
-    let w = c .before .before .before .walk-aside .ensures in
-    (w .long, omega (arith, w .within, r .0 .high), omega (arith, w .within, r .3))
+array-share-prefix-aside : tie.Need-array-share-prefix-aside
+array-share-prefix-aside c =
+    let walk = c .before .before in
+    let a = walk .before .before .before .before .before .before .args in
+    let r = walk-ready (a .n) (a .sheet .now) (a .from) (a .to) (a .k) (length (a .path .now)) _ (walk .before .before .before .walk-number .ensures) (walk .before .before .if1 .left) in
+    aside-within (walk .walk-aside .ensures) (r .0 .high)
+
+slice-aggregate-put : tie.Need-slice-aggregate-put
+slice-aggregate-put c =
+    let walk = c .before .before .before in
+    let a = walk .before .before .before .before .before .before .args in
+    let r = walk-ready (a .n) (a .sheet .now) (a .from) (a .to) (a .k) (length (a .path .now)) _ (walk .before .before .before .walk-number .ensures) (walk .before .before .if1 .left) in
+    sym (aside-taken (walk .walk-aside .ensures) (r .0 .high))
+
+put-requires : tie.Need-put-requires
+put-requires c κs =
+    let walk = c .before .before .before in
+    let a = walk .before .before .before .before .before .before .args in
+    let r = walk-ready (a .n) (a .sheet .now) (a .from) (a .to) (a .k) (length (a .path .now)) _ (walk .before .before .before .walk-number .ensures) (walk .before .before .if1 .left) in
+    omega (arith, aside-taken (walk .walk-aside .ensures) (r .0 .high), walk .walk-aside .ensures .within, r .3)
 
 accepted-requires : tie.Need-accepted-requires
 accepted-requires c κs = search needs
@@ -64,7 +80,9 @@ unrank-spec =
     walk-aside-requires
     refused-requires-2
     returns-2
-    copy-requires
+    array-share-prefix-aside
+    slice-aggregate-put
+    put-requires
     accepted-requires
     same-length
     returns-3)

@@ -1,0 +1,167 @@
+-- The laws of `src/apply.rt`: one record, and the records of a plan one after the other, as the plan reader gives them. Assumes nothing.
+use mathlib.Core.Path.{_≡_, refl, sym, ap, ap₂, _∙_}
+use mathlib.Core.List.{List, [], _∷_, _++_, append-nil}
+use Prim.Native.Nat.{ℕ, zero, suc, _+_, _-_, _*_, _/_, _%_, _≤_, _<_}
+use native.Mathlib.Omega.{arith}
+use lib.ListN.{length, drop, take}
+use lib.Seq.{drop-drop, drop-length, paste, take-paste, take-length}
+use Rattle.record.specs.declared.Record.{Record}
+use Rattle.record.specs.declared.Record.the-variants.{Insert, Delete, Malformed}
+use Rattle.record.specs.declared.reader.Step.{Step}
+use Rattle.record.specs.declared.reader.Step.the-variants.{Read, End}
+use Rattle.record.specs.Reader.{recordAt, stepAt}
+use Rattle.record.proofs.ReaderLaws.{step-read, step-end}
+use Rattle.sheet.specs.declared.answer.Answer.{Answer}
+use Rattle.sheet.specs.Answers.{answer, decided}
+use Rattle.sheet.specs.Layout.{Shape, setBits}
+use Rattle.sheet.proofs.LayoutLaws.{square-le}
+use Rattle.sheet.proofs.AnswerLaws.{decided-old}
+use Rattle.edit.specs.Edit.{insertEdge, deleteEdge}
+use Rattle.edit.specs.Outcome.{editAnswer, editAfter}
+use Rattle.edit.proofs.Refusals.{edit-refused}
+use Rattle.plan.specs.Records.{firstRecords, records, numberOn, leftBy, Applied, applied}
+use Rattle.plan.specs.Calls.{appliedPlan}
+use Rattle.plan.specs.Internal.{Reached, AppliedAll}
+use Rattle.plan.proofs.AppliedLaws.{applied-place}
+
+-- ---- one record
+
+-- the ways out of `apply_record`: r is what the edit answered, and t what it left
+module _ (n : ℕ) (s : List ℕ) (x : Record) where
+  pub record-inserts : (u v : ℕ) → x ≡ Insert u v → (r : Answer) → r ≡ editAnswer (insertEdge n u v) s → r .number ≡ numberOn n s x
+  unfolding numberOn
+  record-inserts u v ex r e = rw ex (ap (λ (y : Answer). y .number) e)
+
+  pub left-inserts : (u v : ℕ) → x ≡ Insert u v → (t : List ℕ) → t ≡ editAfter (insertEdge n u v) s → t ≡ leftBy n s x
+  left-inserts u v ex t e = rw ex e
+
+  pub record-deletes : (u v : ℕ) → x ≡ Delete u v → (r : Answer) → r ≡ editAnswer (deleteEdge n u v) s → r .number ≡ numberOn n s x
+  unfolding numberOn
+  record-deletes u v ex r e = rw ex (ap (λ (y : Answer). y .number) e)
+
+  pub left-deletes : (u v : ℕ) → x ≡ Delete u v → (t : List ℕ) → t ≡ editAfter (deleteEdge n u v) s → t ≡ leftBy n s x
+  left-deletes u v ex t e = rw ex e
+
+  pub record-malformed : x ≡ Malformed → 14 ≡ numberOn n s x
+  unfolding numberOn
+  record-malformed ex = rw ex refl
+
+  pub left-malformed : x ≡ Malformed → s ≡ leftBy n s x
+  left-malformed ex = rw ex refl
+
+module _ (n : ℕ) (s : List ℕ) where
+  -- a record that is refused leaves every word
+  pub left-refused : (x : Record) → ¬ (numberOn n s x ≡ 0) → leftBy n s x ≡ s
+  unfolding numberOn
+  left-refused (Insert u v) d = edit-refused (insertEdge n u v) s d .1
+  left-refused (Delete u v) d = edit-refused (deleteEdge n u v) s d .1
+  left-refused Malformed d = refl
+
+-- ---- the records of a plan
+
+-- the record k is the first of those from k on
+records-more : (plan : List ℕ) (k : ℕ) → length plan % 8 ≡ 0 → 8 * k < length plan
+    → firstRecords (length plan / 8 - k) (drop (8 * k) plan) ≡ recordAt plan k ∷ firstRecords (length plan / 8 - suc k) (drop (8 * suc k) plan)
+unfolding firstRecords
+records-more plan k w h =
+    let e : length plan / 8 - k ≡ suc (length plan / 8 - suc k) = omega arith in
+    let f : 8 * k + 8 ≡ 8 * suc k = omega arith in
+    ap (λ (m : ℕ). firstRecords m (drop (8 * k) plan)) e
+    ∙ ap (λ (l : List ℕ). recordAt plan k ∷ firstRecords (length plan / 8 - suc k) l) (drop-drop 8 (8 * k) plan ∙ ap (λ (m : ℕ). drop m plan) f)
+
+-- the records before k are applied and have left t
+pub record Applying (n : ℕ) (s plan : List ℕ) (k : ℕ) (t : List ℕ) : Type 0 where
+  pub within : 8 * k ≤ length plan
+  pub goesOn : appliedPlan n s plan ≡ applied n (firstRecords (length plan / 8 - k) (drop (8 * k) plan)) t (suc k)
+
+module _ (n : ℕ) (s plan : List ℕ) where
+  pub applying-start : Applying n s plan 0 s
+  applying-start = let e : length plan / 8 ≡ length plan / 8 - 0 = omega arith in record {
+    within = omega arith;
+    goesOn = ap (λ (m : ℕ). applied n (firstRecords m plan) s 1) e;
+  }
+
+  -- z is what the plan reader gives at the record k
+  module _ (k : ℕ) (t : List ℕ) (whole : length plan % 8 ≡ 0) (was : Applying n s plan k t) (z : Step) (ez : z ≡ stepAt plan k) where
+    pub applying-end : z ≡ End → (r : Answer) → r ≡ answer 0 0 0 → Reached (appliedPlan n s plan) r t
+    unfolding firstRecords applied
+    applying-end over r er =
+        let e : length plan / 8 - k ≡ 0 = omega (arith, was .within, step-end plan k (sym ez ∙ over)) in
+        let f : appliedPlan n s plan ≡ record { number = 0; place = 0; words = t }
+        = was .goesOn ∙ ap (λ (m : ℕ). applied n (firstRecords m (drop (8 * k) plan)) t (suc k)) e in
+        record { answered = er ∙ ap (λ (p : Applied). answer (p .number) (p .place) 0) (sym f); words = ap (λ (p : Applied). p .words) (sym f) }
+
+    -- x is the record, m the number of the next; j is what its edit answered, and t′ what it left
+    module _ (x : Record) (m : ℕ) (read : z ≡ Read x m) (j : ℕ) (t′ : List ℕ) (ej : j ≡ numberOn n t x) (et : t′ ≡ leftBy n t x) where
+      here : (8 * k < length plan) × (x ≡ recordAt plan k) × (m ≡ suc k)
+      here = step-read plan k x m (sym ez ∙ read)
+
+      -- what the records after it make
+      abbrev rest : Applied
+      rest = applied n (firstRecords (length plan / 8 - suc k) (drop (8 * suc k) plan)) t′ (suc (suc k))
+
+      opens : appliedPlan n s plan ≡ decided j rest (record { number = j; place = suc k; words = t })
+      unfolding applied
+      opens = rw (ej, et, here .1) (was .goesOn ∙ ap (λ (l : List Record). applied n l t (suc k)) (records-more plan k whole (here .0)))
+
+      pub applying-less : length plan - 8 * m < length plan - 8 * k
+      applying-less = omega (arith, here .0, here .2)
+
+      pub applying-refused : (j ≡ 0 → ⊥) → Reached (appliedPlan n s plan) (answer j (k + 1) 0) t′
+      applying-refused d = go j d refl
+        where
+          go : (i : ℕ) → (i ≡ 0 → ⊥) → j ≡ i → Reached (appliedPlan n s plan) (answer j (k + 1) 0) t′
+          go zero h e = absurd (h refl)
+          go (suc i) h e =
+              let one : k + 1 ≡ suc k = omega arith in
+              let f : appliedPlan n s plan ≡ record { number = j; place = suc k; words = t }
+              = opens ∙ ap (λ (y : ℕ). decided y rest (record { number = j; place = suc k; words = t })) e in
+              record {
+                answered = ap (λ (y : ℕ). answer j y 0) one ∙ ap (λ (p : Applied). answer (p .number) (p .place) 0) (sym f);
+                words = et ∙ (left-refused n t x (λ q. d (ej ∙ q)) ∙ ap (λ (p : Applied). p .words) (sym f));
+              }
+
+      pub applying-more : j ≡ 0 → Applying n s plan m t′
+      applying-more e = rw (here .2) record {
+        within = omega (arith, whole, here .0);
+        goesOn = opens ∙ ap (λ (y : ℕ). decided y rest (record { number = j; place = suc k; words = t })) e;
+      }
+
+-- a sheet has at most 4,160 words
+pub sheet-long : (n : ℕ) (s : List ℕ) → Shape n s → length s ≤ 4160
+sheet-long n s h = omega (arith, h .long, h .high, square-le n (h .high))
+
+-- ---- apply_all: a is what the records answered, and t what they left
+
+module _ (n : ℕ) (s plan : List ℕ) (a : Answer) (t : List ℕ) (h : Reached (appliedPlan n s plan) a t) where
+  reached-number : a .number ≡ appliedPlan n s plan .number
+  reached-number = ap (λ (x : Answer). x .number) (h .answered)
+
+  -- the words kept aside are those of s, and put back they are s
+  pub all-refused : (a .number ≡ 0 → ⊥) → (z kept u : List ℕ) → length s ≤ length z → kept ≡ paste z 0 s (length s)
+      → length t ≡ length s → u ≡ paste t 0 kept (length t) → AppliedAll n s plan a u
+  all-refused d z kept u w ek et eu = record {
+    answered = h .answered ∙ ap (λ (x : ℕ). answer (appliedPlan n s plan .number) (appliedPlan n s plan .place) x)
+        (sym (decided-old (appliedPlan n s plan .number) _ 0 (λ q. d (reached-number ∙ q))));
+    words = back ∙ sym (decided-old (a .number) _ s d);
+  }
+    where
+      -- the first words of what is kept, and none of what was there
+      back : u ≡ s
+      back =
+          let e : length t ≡ 0 + length s = omega arith in
+          let f : 0 + length t ≡ length t = omega arith in
+          let front : take (length t) kept ≡ s
+          = ap₂ (λ (m : ℕ) (l : List ℕ). take m l) e ek ∙ (take-paste z 0 s (length s) (omega arith) (omega arith) ∙ take-length s) in
+          let rest : drop (0 + length t) t ≡ [] = ap (λ (m : ℕ). drop m t) f ∙ drop-length t in
+          eu ∙ (ap₂ (λ (x y : List ℕ). x ++ y) front rest ∙ append-nil s)
+
+  pub all-accepted : a .number ≡ 0 → (v : ℕ) → v ≡ setBits n t → (r : Answer) → r ≡ answer 0 0 v → AppliedAll n s plan r t
+  all-accepted z v ev r er =
+      let p : Applied = appliedPlan n s plan in
+      let en : p .number ≡ 0 = sym reached-number ∙ z in
+      record {
+        answered = er ∙ (ap (λ (x : ℕ). answer 0 0 x) (ev ∙ ap (setBits n) (h .words))
+            ∙ sym (ap₂ (λ (x y : ℕ). answer x y (decided x (setBits n (p .words)) 0)) en (applied-place n (records plan) s 1 en)));
+        words = h .words ∙ ap (λ (x : Answer). decided (x .number) (p .words) s) (sym er);
+      }

@@ -1,0 +1,131 @@
+-- The ways out of the calls and of their checks: k is what the checks of the sheet gave. Assumes nothing.
+use mathlib.Core.Path.{_≡_, refl, sym, ap, _∙_}
+use mathlib.Core.Logic.{_⊎_, inl, inr}
+use mathlib.Core.Bool.{not, _||_}
+use mathlib.Core.List.{List, [], _∷_}
+use Prim.Native.Nat.{ℕ, zero, suc, _*_, _%_, _≤_, _<_}
+use native.Mathlib.Decide.{ℕ-discrete}
+use native.Mathlib.Omega.{arith}
+use lib.Dec.{ltb, eqb}
+use lib.ListN.{length}
+use Rattle.text.specs.Text.{written}
+use Rattle.sheet.specs.declared.answer.Answer.{Answer}
+use Rattle.sheet.specs.Table.{_gives_, Conditions, First, Reflects}
+use Rattle.sheet.specs.Answers.{answer, decided}
+use Rattle.sheet.specs.Layout.{Shape, setBits}
+use Rattle.sheet.proofs.TableLaws.{reflects-or, reflects-not, reflects-lt, reflects-eq, reflects-false, first-true, first-past, first-here, first-next, first-none}
+use Rattle.sheet.proofs.AnswerLaws.{decided-old}
+use Rattle.sheet.proofs.Meaning.{valid-edges-le}
+use Rattle.plan.specs.PlanOf.{planOf}
+use Rattle.plan.specs.Calls.{mostBytes, BadPlan, lengthNumber, readConditions, readAnswer, ReadPlan, ShortBuffer, writeConditions, WritePlan}
+use Rattle.recount.specs.Internal.{SheetNumber}
+use Rattle.recount.proofs.ValidateLaws.{valid-stops, valid-of, valid-passes}
+use Rattle.plan.specs.Internal.{ReadNumber, AppliedAll}
+use Rattle.sheet.proofs.ValidLaws.{accepted-valid}
+use Rattle.plan.proofs.PlanOfLaws.{plan-length}
+
+-- ---- length_number
+
+-- the test decides 13
+length-test : (bytes : ℕ) → Reflects (not (eqb (bytes % 8) 0) || ltb mostBytes bytes) ((¬ (bytes % 8 ≡ 0)) ⊎ (mostBytes < bytes))
+length-test bytes = reflects-or (reflects-not (reflects-eq (bytes % 8) 0)) (reflects-lt mostBytes bytes)
+
+module _ (bytes : ℕ) where
+  pub length-broken : (bytes % 8 ≡ 0 → ⊥) → 13 ≡ lengthNumber bytes
+  unfolding lengthNumber
+  length-broken d = sym (first-here _ [] (length-test bytes .shows (inl d)))
+
+  pub length-long : mostBytes < bytes → 13 ≡ lengthNumber bytes
+  unfolding lengthNumber
+  length-long l = sym (first-here _ [] (length-test bytes .shows (inr l)))
+
+  pub length-good : bytes % 8 ≡ 0 → bytes ≤ mostBytes → 0 ≡ lengthNumber bytes
+  unfolding lengthNumber
+  length-good w l =
+      sym (first-next _ [] (reflects-false (length-test bytes) .1 (λ c. elim c [ inl d ↦ d w | inr m ↦ omega (arith, m) ])) ∙ first-none)
+
+pub length-first : (plan : List ℕ) → First (BadPlan plan gives 13 ∷ []) (lengthNumber (length plan))
+unfolding lengthNumber
+length-first plan = first-true (BadPlan plan gives 13 ∷ []) ((not (eqb (length plan % 8) 0) || ltb mostBytes (length plan)) gives 13 ∷ []) (length-test (length plan), refl, λ d. tt)
+
+-- ---- first, and read_number
+
+pub first-refuses : (k j : ℕ) → (k ≡ 0 → ⊥) → k ≡ decided k j k
+first-refuses k j d = sym (decided-old k j k d)
+
+pub first-then : (k j : ℕ) → k ≡ 0 → j ≡ decided k j k
+first-then k j z = rw z refl
+
+pub read-first : (n : ℕ) (s plan : List ℕ) (k j r : ℕ) → SheetNumber n s k → j ≡ lengthNumber (length plan) → r ≡ decided k j k → ReadNumber n s plan r
+read-first n s plan k j r h ej er = rw (er, ej) (go k h)
+  where
+    go : (k : ℕ) → SheetNumber n s k → ReadNumber n s plan (decided k (lengthNumber (length plan)) k)
+    go zero h = valid-passes n s (BadPlan plan gives 13 ∷ []) 0 h refl (lengthNumber (length plan)) (length-first plan)
+    go (suc k) h = valid-stops n s (BadPlan plan gives 13 ∷ []) (suc k) h (λ z. omega (arith, z))
+
+-- ---- read_plan
+
+module _ (n : ℕ) (s plan : List ℕ) (k : ℕ) (h : ReadNumber n s plan k) where
+  pub read-stops : (k ≡ 0 → ⊥) → (r : Answer) → r ≡ answer k 0 0 → ReadPlan n s plan r s
+  read-stops d r er = record {
+    k = k;
+    first = h;
+    answers = er ∙ sym (decided-old k _ _ d);
+    leaves = sym (decided-old (r .number) _ s (λ z. d (sym (ap (λ (x : Answer). x .number) er) ∙ z)));
+  }
+
+  pub read-applied : k ≡ 0 → (r : Answer) (t : List ℕ) → AppliedAll n s plan r t → ReadPlan n s plan r t
+  read-applied z r t p = record {
+    k = k;
+    first = h;
+    answers = p .answered ∙ ap (readAnswer n s plan) (sym z);
+    leaves = p .words;
+  }
+
+  -- what `apply_all` asks
+  pub read-ready : k ≡ 0 → Shape n s × (length plan % 8 ≡ 0)
+  read-ready z =
+      let f : First (readConditions n s plan) 0 = rw z at h in
+      (accepted-valid n s (BadPlan plan gives 13 ∷ []) f .shape, whole (first-past (first-past (first-past (first-past f .1) .1) .1) .0))
+    where
+      whole : ¬ (BadPlan plan) → length plan % 8 ≡ 0
+      whole d = elim (ℕ-discrete (length plan % 8) 0) [ yes e ↦ e | no c ↦ absurd (d (inl c)) ]
+
+-- ---- write_plan: b is the number of set bits
+
+module _ (n : ℕ) (s p : List ℕ) (k : ℕ) (h : SheetNumber n s k) where
+  abbrev buffer : Conditions
+  buffer = ShortBuffer n s (length p) gives 10 ∷ []
+
+  refuses : (j : ℕ) → First (writeConditions n s (length p)) j → (j ≡ 0 → ⊥) → (r : Answer) → r ≡ answer j 0 0 → WritePlan n s p r p
+  refuses j f d r er = rw er record { number = f; place = refl; value = sym (decided-old j _ 0 d); bytes = sym (decided-old j _ p d) }
+
+  pub write-stops : (k ≡ 0 → ⊥) → (r : Answer) → r ≡ answer k 0 0 → WritePlan n s p r p
+  write-stops d = refuses k (valid-stops n s buffer k h d) d
+
+  module _ (z : k ≡ 0) where
+    pub write-shape : Shape n s
+    write-shape = valid-of n s buffer k h z .shape
+
+    module _ (b : ℕ) (eb : b ≡ setBits n s) where
+      pub write-few : b ≤ 2016
+      write-few = omega (arith, eb, valid-edges-le n s (valid-of n s buffer k h z))
+
+      pub write-short : length p < 8 * b → (r : Answer) → r ≡ answer 10 0 0 → WritePlan n s p r p
+      write-short l = refuses 10 (valid-passes n s buffer k h z 10 (inl (rw (← eb) l, refl))) (λ q. omega (arith, q))
+
+      module _ (l : 8 * b ≤ length p) where
+        bytes : length (planOf n s) ≡ 8 * b
+        bytes = plan-length n s (valid-of n s buffer k h z) ∙ ap (λ (x : ℕ). 8 * x) (sym eb)
+
+        -- what `write_rows` asks
+        pub write-fits : Shape n s × (length (planOf n s) ≤ length p)
+        write-fits = (write-shape, omega (arith, bytes))
+
+        pub write-whole : (q : List ℕ) → q ≡ written (planOf n s) p → (r : Answer) → r ≡ answer 0 0 (8 * b) → WritePlan n s p r q
+        write-whole q eq r er = rw er record {
+          number = valid-passes n s buffer k h z 0 (inr (λ c. omega (arith, c, eb), refl));
+          place = refl;
+          value = sym bytes;
+          bytes = eq;
+        }

@@ -1,0 +1,41 @@
+// The checks that come before a plan is read.
+ghost use mathlib.Core.Path.{_≡_};
+ghost use Rattle.sheet.specs.Answers.{decided};
+ghost use Rattle.plan.specs.Calls.{lengthNumber};
+ghost use Rattle.plan.specs.Internal.{ReadNumber};
+use sheet::Refusal;
+
+// The greatest length of a plan: 4,096 records.
+const MOST_BYTES: usize = 32768;
+
+// The number by which the length of a plan is refused: 13, or 0.
+fn length_number(bytes: usize) -> u64
+    ensures { λ r. ⌜ r ≡ lengthNumber bytes ⌝ }
+{
+    if bytes % 8 != 0 {
+        return Refusal::PLAN_LENGTH;
+    }
+    if MOST_BYTES < bytes {
+        return Refusal::PLAN_LENGTH;
+    }
+    0
+}
+
+// The first of two numbers that refuses, or 0.
+fn first(number: u64, then: u64) -> u64
+    ensures { λ r. ⌜ r ≡ decided number then number ⌝ }
+{
+    if number != 0 {
+        return number;
+    }
+    then
+}
+
+// The number by which a sheet or the length of a plan is refused, before a record is read: 1, 2, 9, 13; or 0.
+pub(crate) fn read_number(n: usize, sheet: &[u64], plan: &[u8]) -> u64
+    ensures { λ r. ⌜ ReadNumber n (now (sheet .entry)) (now (plan .entry)) r ⌝ }
+{
+    let of_sheet = recount::sheet_number(n, sheet);
+    let of_length = length_number(plan.len());
+    first(of_sheet, of_length)
+}

@@ -1,0 +1,4 @@
+pub mod CodecLaws
+pub mod RecordLaws
+pub mod ReaderLaws
+pub mod Examples

@@ -1,0 +1,106 @@
+-- `record::decode` meets its contract: each way out is a law of CodecLaws. Assumes nothing.
+use mathlib.Core.Logic.{⊎-elim}
+use native.Mathlib.Omega.{arith}
+use borrow.Author.Needs.{needs}
+use Rattle.record.proofs.CodecLaws.{digits-hold, decode-short, decode-first, decode-second, decode-third}
+use Rattle.record.proofs.CodecLaws.{decode-from, decode-to, decode-letter, decode-other}
+use Rattle.record.proofs.decode.Statement.{statement}
+use Rattle.record.proofs.decode.Tie as tie
+
+returns : tie.Need-returns
+returns c = decode-short (c .before .before .args .bytes .now) (omega arith)
+
+returns-2 : tie.Need-returns-2
+returns-2 c =
+    ⊎-elim (λ w. search decode-first) (⊎-elim (λ w. search decode-second) (λ w. search decode-third)) (c .if2 .came)
+
+returns-3 : tie.Need-returns-3
+returns-3 c = ⊎-elim (λ w. search decode-from) (λ w. search decode-to) (c .if5 .came)
+
+returns-4 : tie.Need-returns-4
+returns-4 c = search decode-letter
+
+returns-5 : tie.Need-returns-5
+returns-5 c = search decode-letter
+
+returns-6 : tie.Need-returns-6
+returns-6 c = search decode-other
+
+shared-slice-read-if2 : tie.Need-shared-slice-read-if2
+shared-slice-read-if2 c = search needs
+
+shared-slice-read-if3 : tie.Need-shared-slice-read-if3
+shared-slice-read-if3 c = search needs
+
+shared-slice-read-if4 : tie.Need-shared-slice-read-if4
+shared-slice-read-if4 c = search needs
+
+shared-slice-read-are-digits : tie.Need-shared-slice-read-are-digits
+shared-slice-read-are-digits c = search needs
+
+shared-slice-read-are-digits-2 : tie.Need-shared-slice-read-are-digits-2
+shared-slice-read-are-digits-2 c = search needs
+
+are-digits-requires : tie.Need-are-digits-requires
+are-digits-requires c κs = search needs
+
+shared-slice-read-are-digits-3 : tie.Need-shared-slice-read-are-digits-3
+shared-slice-read-are-digits-3 c = search needs
+
+shared-slice-read-are-digits-4 : tie.Need-shared-slice-read-are-digits-4
+shared-slice-read-are-digits-4 c = search needs
+
+are-digits-requires-2 : tie.Need-are-digits-requires-2
+are-digits-requires-2 c κs = search needs
+
+shared-slice-read-number : tie.Need-shared-slice-read-number
+shared-slice-read-number c = search needs
+
+shared-slice-read-number-2 : tie.Need-shared-slice-read-number-2
+shared-slice-read-number-2 c = search needs
+
+number-requires : tie.Need-number-requires
+number-requires c κs =
+    let from = c .before .before .before .before .before .before in
+    digits-hold _ _ _ (from .before .are-digits .ensures) (from .if5 .left)
+
+shared-slice-read-number-3 : tie.Need-shared-slice-read-number-3
+shared-slice-read-number-3 c = search needs
+
+shared-slice-read-number-4 : tie.Need-shared-slice-read-number-4
+shared-slice-read-number-4 c = search needs
+
+number-requires-2 : tie.Need-number-requires-2
+number-requires-2 c κs =
+    let to = c .before .before .before .before .before in
+    digits-hold _ _ _ (to .before .are-digits2 .ensures) (to .if6 .left)
+
+shared-slice-read-letter : tie.Need-shared-slice-read-letter
+shared-slice-read-letter c = search needs
+
+pub decode-spec : {M : Type 1} → statement M
+decode-spec =
+    tie.close
+    (tie.spec
+    returns
+    shared-slice-read-if2
+    shared-slice-read-if3
+    shared-slice-read-if4
+    returns-2
+    shared-slice-read-are-digits
+    shared-slice-read-are-digits-2
+    are-digits-requires
+    shared-slice-read-are-digits-3
+    shared-slice-read-are-digits-4
+    are-digits-requires-2
+    returns-3
+    shared-slice-read-number
+    shared-slice-read-number-2
+    number-requires
+    shared-slice-read-number-3
+    shared-slice-read-number-4
+    number-requires-2
+    shared-slice-read-letter
+    returns-4
+    returns-5
+    returns-6)

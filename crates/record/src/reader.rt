@@ -1,0 +1,53 @@
+// The plan reader: one thing that carries a plan's bytes and the record that it has got to.
+ghost use mathlib.Core.Path.{_≡_};
+ghost use Rattle.record.specs.Reader.{stepAt};
+use crate::Record;
+use crate::decode;
+
+pub struct PlanReader<'a> {
+    pub plan: &'a [u8],
+    pub record: usize,
+}
+
+// What a reader gives.
+pub enum Step {
+    // What the record says, and the number of the record after it.
+    Read(Record, usize),
+    // No byte is left.
+    End,
+}
+
+// The record k of a plan, from 0 up: the work of `next`.
+fn step_at(plan: &[u8], k: usize) -> Step
+    ensures { λ r. ⌜ r ≡ stepAt (now (plan .entry)) k ⌝ }
+{
+    if plan.len() / 8 < k {
+        return Step::End;
+    }
+    let start = 8 * k;
+    if start == plan.len() {
+        return Step::End;
+    }
+    Step::Read(decode(&plan[start..]), k + 1)
+}
+
+// A reader of a plan that has got to the record k.
+pub fn reader_at<'a>(plan: &'a [u8], k: usize) -> PlanReader<'a>
+    ensures { λ r. ⌜ (r .plan ≡ plan .entry) × (r .«record» ≡ k) ⌝ }
+{
+    PlanReader { plan, record: k }
+}
+
+// The record that a reader has got to.
+pub fn next<'a>(reader: PlanReader<'a>) -> Step
+    ensures { λ r. ⌜ r ≡ stepAt (now (reader .entry .plan)) (reader .entry .«record») ⌝ }
+{
+    step_at(reader.plan, reader.record)
+}
+
+// The record k of a plan, through a reader: what those who have a plan and no reader call.
+pub fn read_record(plan: &[u8], k: usize) -> Step
+    ensures { λ r. ⌜ r ≡ stepAt (now (plan .entry)) k ⌝ }
+{
+    next(reader_at(plan, k))
+}

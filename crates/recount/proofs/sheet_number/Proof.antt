@@ -1,0 +1,25 @@
+-- `recount::sheet_number` meets its contract: each way out is a law of ValidateLaws. Assumes nothing.
+use borrow.Author.Needs.{needs}
+use borrow.Author.Tests.{not-true, not-false}
+use Rattle.sheet.proofs.ShapeLaws.{shape-of}
+use Rattle.recount.proofs.ValidateLaws.{sheet-shape, sheet-not-valid, sheet-valid}
+use Rattle.recount.proofs.sheet_number.Statement.{statement}
+use Rattle.recount.proofs.sheet_number.Tie as tie
+
+returns : tie.Need-returns
+returns c = search sheet-shape
+
+returns-2 : tie.Need-returns-2
+returns-2 c = search (sheet-not-valid, not-true)
+
+returns-3 : tie.Need-returns-3
+returns-3 c = search (sheet-valid, not-false)
+
+shape-number-requires : tie.Need-shape-number-requires
+shape-number-requires c κs = search needs
+
+is-valid-requires : tie.Need-is-valid-requires
+is-valid-requires c κs = search shape-of
+
+pub sheet-number-spec : {M : Type 1} → statement M
+sheet-number-spec = tie.close (tie.spec shape-number-requires returns is-valid-requires returns-2 returns-3)

@@ -1,0 +1,4 @@
+pub mod DecimalLaws
+pub mod LineLaws
+pub mod ListingLaws
+pub mod Examples

@@ -1,0 +1,27 @@
+-- `report::lines::put_labelled` meets its contract. Assumes nothing.
+use native.Mathlib.Omega.{arith}
+use borrow.Author.Needs.{needs}
+use lib.ListN.{length-append}
+use Rattle.report.specs.Lines.{decimal}
+use Rattle.report.proofs.LineLaws.{labelled-put}
+use Rattle.report.proofs.lines.put_labelled.Statement.{statement}
+use Rattle.report.proofs.lines.put_labelled.Tie as tie
+
+returns : tie.Need-returns
+returns c = search labelled-put
+
+put-requires : tie.Need-put-requires
+put-requires c κs =
+    let a = c .before .before .before .args in
+    omega (arith, length-append (a .label .now) (decimal (a .x)))
+
+put-requires-2 : tie.Need-put-requires-2
+put-requires-2 c κs =
+    let a = c .before .before .before .before .before .before .before .args in
+    omega (arith, length-append (a .label .now) (decimal (a .x)))
+
+same-length : tie.Need-same-length
+same-length c = search needs
+
+pub put-labelled-spec : {M : Type 1} → statement M
+put-labelled-spec = tie.close (tie.spec put-requires put-requires-2 same-length returns)

@@ -1,0 +1,29 @@
+-- `report::lines::put_pair` meets its contract: each way out is a law of LineLaws. Assumes nothing.
+use mathlib.Core.Logic.{⊎-elim}
+use borrow.Author.Tests.{eqb-true, eqb-false}
+use borrow.Author.Needs.{needs}
+use Rattle.report.proofs.LineLaws.{pair-same, pair-none, pair-room, pair-put}
+use Rattle.report.proofs.lines.put_pair.Statement.{statement}
+use Rattle.report.proofs.lines.put_pair.Tie as tie
+
+-- the two are the same, or have no path
+ruleset passed = (pair-same, pair-none, eqb-true)
+
+returns : tie.Need-returns
+returns c = ⊎-elim (λ w. search passed) (λ w. search passed) (c .if1 .came)
+
+returns-2 : tie.Need-returns-2
+returns-2 c = search (pair-put, eqb-false)
+
+count-at-requires : tie.Need-count-at-requires
+count-at-requires c κs = search needs
+
+put-count-requires : tie.Need-put-count-requires
+put-count-requires c κs = search (pair-room, eqb-false)
+
+same-length : tie.Need-same-length
+same-length c = search needs
+
+pub put-pair-spec : {M : Type 1} → statement M
+put-pair-spec =
+    tie.close (tie.spec count-at-requires returns put-count-requires same-length returns-2)

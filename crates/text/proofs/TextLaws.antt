@@ -1,0 +1,96 @@
+-- The laws of text in a buffer: bytes copied one after the other, pieces one after the other, and what they leave of the buffer.
+-- Assumes nothing.
+use mathlib.Core.Path.{_≡_, refl, sym, ap, ap₂, _∙_}
+use mathlib.Core.List.{List, [], _++_, append-assoc}
+use Prim.Native.Nat.{ℕ, suc, _+_, _≤_, _<_}
+use native.Mathlib.Omega.{arith}
+use lib.ListN.{length, getD, set, take, drop, length-append}
+use lib.Seq.{length-take-le, paste, paste-zero, paste-suc, length-paste, take-paste, drop-paste, take-length, drop-drop}
+use Rattle.sums.specs.Gather.{gather}
+use Rattle.sums.proofs.GatherLaws.{gather-none, gather-more, gather-room}
+use Rattle.text.specs.Text.{pasted, Put, written}
+
+-- ---- `put`: k bytes of b are copied to l
+
+pub pasted-paste : (buffer : List ℕ) (at : ℕ) (b : List ℕ) → pasted buffer at b ≡ paste buffer at b (length b)
+pasted-paste buffer at b = ap (λ (x : List ℕ). take at buffer ++ (x ++ drop (at + length b) buffer)) (sym (take-length b)) ∙ sym (append-assoc (take at buffer) _ _)
+
+module _ (buffer : List ℕ) (at : ℕ) (b l : List ℕ) (k : ℕ) (e : l ≡ paste buffer at b k) where
+  pub paste-more : k < length b → at + length b ≤ length buffer → set l (at + k) (getD b k 0) ≡ paste buffer at b (k + 1)
+  paste-more h w =
+      let one : suc k ≡ k + 1 = omega arith in
+      ap (λ (x : List ℕ). set x (at + k) (getD b k 0)) e ∙ (paste-suc buffer at b k 0 (omega arith) h ∙ ap (paste buffer at b) one)
+
+  pub paste-done : k ≡ length b → Put buffer at b l (at + k)
+  paste-done d = record { place = ap (λ (x : ℕ). at + x) d; bytes = e ∙ (ap (paste buffer at b) d ∙ sym (pasted-paste buffer at b)) }
+
+-- the same from the first place on
+pub front-more : (buffer b l : List ℕ) (k : ℕ) → l ≡ paste buffer 0 b k → k < length b → k < length buffer → set l k (getD b k 0) ≡ paste buffer 0 b (k + 1)
+front-more buffer b l k e h w =
+    let z : k ≡ 0 + k = omega arith in
+    let one : suc k ≡ k + 1 = omega arith in
+    ap₂ (λ (x : List ℕ) (y : ℕ). set x y (getD b k 0)) e z ∙ (paste-suc buffer 0 b k 0 (omega arith) h ∙ ap (paste buffer 0 b) one)
+
+-- ---- bytes put one after the other
+
+pub put-none : (buffer : List ℕ) (at : ℕ) → Put buffer at [] buffer at
+put-none buffer at = record { place = omega arith; bytes = paste-zero buffer at [] ∙ append-assoc (take at buffer) [] _ }
+
+module _ (buffer : List ℕ) (at : ℕ) (b l : List ℕ) (r : ℕ) (p : Put buffer at b l r) where
+  pub put-length : at + length b ≤ length buffer → length l ≡ length buffer
+  put-length h = ap length (p .bytes ∙ pasted-paste buffer at b) ∙ length-paste buffer at b (length b) h (omega arith)
+
+  pub put-more : (c m : List ℕ) (q : ℕ) → at + length b ≤ length buffer → Put l r c m q → Put buffer at (b ++ c) m q
+  put-more c m q h u = record {
+    place = u .place ∙ (ap (λ (x : ℕ). x + length c) (p .place) ∙ rw (length-append b c) (omega arith));
+    bytes =
+        let w : l ≡ paste buffer at b (length b) = p .bytes ∙ pasted-paste buffer at b in
+        let front : take r l ≡ take at buffer ++ b
+        = ap₂ (λ (x : ℕ) (y : List ℕ). take x y) (p .place) w
+        ∙ (take-paste buffer at b (length b) (omega arith) (omega arith) ∙ ap (λ (x : List ℕ). take at buffer ++ x) (take-length b)) in
+        let far : at + length b + length c ≡ at + length (b ++ c) = rw (length-append b c) (omega arith) in
+        let back : drop (r + length c) l ≡ drop (at + length (b ++ c)) buffer
+        = sym (drop-drop (length c) r l)
+        ∙ (ap (drop (length c)) (ap₂ (λ (x : ℕ) (y : List ℕ). drop x y) (p .place) w ∙ drop-paste buffer at b (length b) (omega arith) (omega arith))
+        ∙ (drop-drop (length c) (at + length b) buffer ∙ ap (λ (x : ℕ). drop x buffer) far)) in
+        u .bytes ∙ (ap₂ (λ (x y : List ℕ). x ++ (c ++ y)) front back ∙ (append-assoc (take at buffer) b _ ∙ ap (λ (x : List ℕ). take at buffer ++ x) (sym (append-assoc b c _))));
+  }
+
+-- from the first place on
+pub put-written : (buffer b l : List ℕ) (r : ℕ) → Put buffer 0 b l r → (r ≡ length b) × (l ≡ written b buffer)
+put-written buffer b l r p =
+    let z : 0 + length b ≡ length b = omega arith in
+    (p .place ∙ z, p .bytes ∙ ap (λ (x : ℕ). b ++ drop x buffer) z)
+
+-- the first r bytes of l, where b has been written and has r bytes
+module _ (b buffer l : List ℕ) (r : ℕ) (count : r ≡ length b) (bytes : l ≡ written b buffer) where
+  pub written-within : r ≤ length l
+  written-within = omega (arith, ap length bytes, length-append b (drop (length b) buffer))
+
+  pub written-front : r ≡ length (take r l)
+  written-front = sym (length-take-le r l written-within)
+
+-- ---- pieces put one after the other
+
+-- the first j pieces have been put into a buffer from the place at on, which has made l of it, and r is the place after them
+pub record Pieces (buffer : List ℕ) (at : ℕ) (f : ℕ → List ℕ) (j : ℕ) (l : List ℕ) (r : ℕ) : Type 0 where
+  pub long : length l ≡ length buffer
+  pub put : Put buffer at (gather j f) l r
+
+-- where there is room for n of them
+module _ (buffer : List ℕ) (at : ℕ) (f : ℕ → List ℕ) (n : ℕ) (room : at + length (gather n f) ≤ length buffer) where
+  pub pieces-start : Pieces buffer at f 0 buffer at
+  pieces-start = record { long = refl; put = rw (gather-none f) (put-none buffer at) }
+
+  module _ (j : ℕ) (l : List ℕ) (r : ℕ) (was : Pieces buffer at f j l r) where
+    pub pieces-room : j < n → r + length (f j) ≤ length l
+    pieces-room h = omega (arith, room, was .long, was .put .place, gather-room j n f h)
+
+    pub pieces-more : j < n → (m : List ℕ) (q : ℕ) → Put l r (f j) m q → Pieces buffer at f (j + 1) m q
+    pieces-more h m q u = record {
+      long = put-length l r (f j) m q u (pieces-room h) ∙ was .long;
+      put = rw (gather-more j f) (put-more buffer at (gather j f) l r (was .put) (f j) m q (omega (arith, room, gather-room j n f h)) u);
+    }
+
+    pub pieces-done : j ≡ n → Put buffer at (gather n f) l r
+    pieces-done e = rw (← e) (was .put)
