@@ -6,11 +6,11 @@
  * is no cycle, and each count is the number of paths; a vertex alone is one path, from it to itself.
  *
  * Every call answers for every n, every length, all words and all bytes, and ends. A refused call changes no word and no byte.
- * The caller lends `sheet`, `words` words aligned as uint64_t, and nobody else writes them during the call; if `words` is 0 it
- * may be NULL. A path is lent as `path`, `path_bytes` bytes apart from the sheet, in the same way: one byte a vertex, from the
- * first byte on; if `path_bytes` is 0 it may be NULL. So is a plan, as `plan` and `plan_bytes`. No call keeps anything between
- * calls, so calls on different sheets, and calls that only read one sheet, may run at the same time, each with a path or a plan of
- * its own to write.
+ * The caller lends `sheet`, `words` words aligned as uint64_t; nobody else writes them during the call, nor reads them during one
+ * that may change them; if `words` is 0 it may be NULL. A path is lent as `path`, `path_bytes` bytes apart from the sheet, at any
+ * address, in the same way: one byte a vertex, from the first byte on; if `path_bytes` is 0 it may be NULL. So is a plan, as `plan`
+ * and `plan_bytes`. No call keeps anything between calls, so calls on different sheets, and calls that only read one sheet, may run
+ * at the same time, each with a path or a plan of its own to write.
  *
  * A plan is records of 8 bytes, and nothing else: 'L' or 'T', a space, two digits, a space, two digits, a line feed, in ASCII.
  * `L 03 04` inserts the edge from vertex 3 to vertex 4, `T 03 04` deletes it.
@@ -38,8 +38,8 @@ enum {
 };
 
 /*
- * What a call answers. number: 0 for accepted, else that of the refusal. place: the refused record of a plan, from 1 up, where a
- * call takes a plan, else 0. value: what the call says below, and 0 when refused.
+ * What a call answers. number: 0 for accepted, else that of the refusal. place: where a plan is refused at a record, that record,
+ * from 1 up; else 0. value: what the call says below, and 0 when refused.
  */
 typedef struct {
     uint64_t number;
@@ -154,16 +154,18 @@ lugloquat_answer lugloquat_rank(size_t n, const uint64_t *sheet, size_t words, c
 /*
  * Reads a plan into a valid sheet: its records are applied in order, each to the sheet as those before it left it, and every count is
  * brought up to date. If a record is refused, those before it are undone, and whatever comes after it is not looked at.
- * Refused by 1, 2, 9, 13, and at a record, whose place from 1 up is answered, by 14, 3, 5, 6, 7, 8. value: the number of set bits
- * in all rows afterwards. A valid sheet stays valid; a plan of no bytes is accepted and changes nothing. The call keeps a copy of
- * the sheet on the stack, 33,280 bytes.
+ * Refused by 1, 2, 9, 13, and at a record, whose place from 1 up is answered, by 14, 3, 5, 6, 7, 8. Each record is looked at for
+ * all of these before the next: for 14 and 3, then an insertion for 5, 6 and 8, a deletion for 7. value: the number of set bits in
+ * all rows afterwards. A valid sheet stays valid; a plan of no bytes is accepted and changes nothing. The call keeps a copy of the
+ * sheet on the stack, 33,280 bytes besides what the edits take.
  */
 lugloquat_answer lugloquat_read_plan(size_t n, uint64_t *sheet, size_t words, const uint8_t *plan, size_t plan_bytes);
 
 /*
  * Writes the edges of a valid sheet as `L` records, ascending by the vertex that an edge runs from, then by the one that it runs
- * to, to the first bytes of `plan`; the rest of the bytes stay. Refused by 1, 2, 9, 10 (`plan_bytes` is under 8 an edge).
- * value: the number of bytes written. Read into an empty sheet of n vertices they give the same words.
+ * to, to the first bytes of `plan`; the rest of the bytes stay, and nothing ends the plan but its length. Refused by 1, 2, 9, 10
+ * (`plan_bytes` is under 8 an edge; 8 * LUGLOQUAT_EDGES are always enough). value: the number of bytes written. Read into an empty
+ * sheet of n vertices they give the same words.
  */
 lugloquat_answer lugloquat_write_plan(size_t n, const uint64_t *sheet, size_t words, uint8_t *plan, size_t plan_bytes);
 

@@ -170,14 +170,15 @@ pub fn rank(n: usize, sheet: &[u64], path: &[u8]) -> Result<u64, Refusal> {
 /// Reads a plan into a valid sheet: its records, each an insertion or a deletion of one edge, are applied in order, each to the sheet
 /// as those before it left it; if one is refused, the sheet is as it was, and [`Refusal::place`] is that record's, from 1 up. The
 /// value is the number of set bits in all rows afterwards. The sheet stays valid, and an empty plan leaves it as it is. The call keeps
-/// a copy of the sheet on the stack, 33,280 bytes.
+/// a copy of the sheet on the stack, 33,280 bytes besides what the edits take.
 ///
 /// A record is 8 bytes of ASCII: `L` to insert or `T` to delete, a space, the vertex that the edge runs from in two decimal digits, a
 /// space, the vertex that it runs to in two, a line feed. A plan is nothing but records, 4,096 at most.
 ///
 /// Refused as [`Reason::Vertices`], [`Reason::Length`], [`Reason::NotValid`], [`Reason::PlanLength`], and at a record as
 /// [`Reason::Record`], [`Reason::Vertex`], [`Reason::SelfLoop`], [`Reason::Present`], [`Reason::Absent`], [`Reason::Cycle`],
-/// in this order. The first record that is refused gives the reason, whatever comes after it.
+/// in this order, each record for all of them before the next; a deletion as [`Reason::Absent`] alone once its vertices are past. The
+/// first record that is refused gives the reason, whatever comes after it.
 pub fn read_plan(n: usize, sheet: &mut [u64], plan: &[u8]) -> Result<u64, Refusal> {
     // SAFETY: the words and the bytes are those of the slices; the words are lent for the call alone, the bytes only read.
     unsafe { sys::lugloquat_read_plan(n, sheet.as_mut_ptr(), sheet.len(), plan.as_ptr(), plan.len()) }.result()

@@ -26,16 +26,16 @@ E =
     ∷ []
 
 -- inserting 3 to 0 would close a cycle, and so would 3 to 4 with 4 to 0
-closes-3-0 : editAnswer (insertEdge 5 3 0) D ≡ answer 8 0 0
+pub closes-3-0 : editAnswer (insertEdge 5 3 0) D ≡ answer 8 0 0
 unfolding D firstTrue some someEdge closes
 closes-3-0 = refl
 
-closes-at-4 : editAnswer (insertEdgesAt 5 4 8 1) D ≡ answer 8 0 0
+pub closes-at-4 : editAnswer (insertEdgesAt 5 4 8 1) D ≡ answer 8 0 0
 unfolding D firstTrue some someEdge closes
 closes-at-4 = refl
 
 -- at 4, from 1 and to 3: the count from 0 to 3 becomes 3, and deleting both restores D
-inserts-at-4 : editAfter (insertEdgesAt 5 4 2 8) D ≡ E
+pub inserts-at-4 : editAfter (insertEdgesAt 5 4 2 8) D ≡ E
 unfolding D E firstTrue some someEdge closes edited editedRow editedCount editedBy redone redoneWord build ofBits fromSum toSum sum
 inserts-at-4 = refl
 
@@ -43,7 +43,7 @@ value-at-4 : editAnswer (insertEdgesAt 5 4 2 8) D ≡ answer 0 0 6
 unfolding D firstTrue some someEdge closes edited editedRow editedCount editedBy redone redoneWord build ofBits fromSum toSum sum setBits bitCount
 value-at-4 = refl
 
-restores : editAfter (deleteEdgesAt 5 4 2 8) E ≡ D
+pub restores : editAfter (deleteEdgesAt 5 4 2 8) E ≡ D
 unfolding D E firstTrue some someEdge closes edited editedRow editedCount editedBy redone redoneWord build ofBits fromSum toSum sum minus
 restores = refl
 
@@ -92,7 +92,7 @@ unfolding D firstTrue some someEdge edited editedRow editedCount editedBy redone
 deleted-value = refl
 
 -- 5 comes before 6: 0 to 0, with 0 to 1 that is there
-loop-first : editAnswer (insertEdgesAt 5 0 1 2) D ≡ answer 5 0 0
+pub loop-first : editAnswer (insertEdgesAt 5 0 1 2) D ≡ answer 5 0 0
 unfolding D firstTrue some someEdge
 loop-first = refl
 

@@ -2,7 +2,7 @@
 use report::Listing;
 
 fn main() {
-    let mut input = [0u8; Listing::INPUT];
+    let mut input = report::input_buffer();
     let count = io::read_full(libc::STDIN_FILENO, &mut input);
     let mut out = [0u8; Listing::BYTES];
     let length = report::list(&input[..count], &mut out);

@@ -27,7 +27,7 @@ use Rattle.plan.specs.Accepted.{Accepted}
 -- ---- one record
 
 -- its number is the model's
-pub record-number : (n : ℕ) (m : Model) (s : List ℕ) → Modelled m s → m .vertices ≡ n → (x : Record) → RecordNumber m x (numberOn n s x)
+record-number : (n : ℕ) (m : Model) (s : List ℕ) → Modelled m s → m .vertices ≡ n → (x : Record) → RecordNumber m x (numberOn n s x)
 unfolding numberOn
 record-number n m s h q x = subst (λ y. RecordNumber m x (numberOn y s x)) q (go x)
   where
@@ -42,7 +42,7 @@ edit-left m s h e z =
     (accepted-modelled m s h e (subst (First (modelConditions m e)) z (number-first m s h e)) .1)
 
 -- and what it leaves, if it is not refused, is the sheet of what it makes of the model
-pub record-left : (n : ℕ) (m : Model) (s : List ℕ) → Modelled m s → m .vertices ≡ n → (x : Record) → numberOn n s x ≡ 0
+record-left : (n : ℕ) (m : Model) (s : List ℕ) → Modelled m s → m .vertices ≡ n → (x : Record) → numberOn n s x ≡ 0
     → Modelled (recordEffect m x) (leftBy n s x)
 unfolding numberOn
 record-left n m s h q x = subst (λ y. numberOn y s x ≡ 0 → Modelled (recordEffect m x) (leftBy y s x)) q (go x)
@@ -70,7 +70,7 @@ module _ (n : ℕ) (x : Record) (l : List Record) (s : List ℕ) (p : ℕ) where
   unfolding applied
   applied-next z = rw z
 
-  pub applied-here : ¬ (numberOn n s x ≡ 0) → applied n (x ∷ l) s p ≡ record { number = numberOn n s x; place = p; words = s }
+  applied-here : ¬ (numberOn n s x ≡ 0) → applied n (x ∷ l) s p ≡ record { number = numberOn n s x; place = p; words = s }
   unfolding applied
   applied-here = decided-old (numberOn n s x) _ _
 

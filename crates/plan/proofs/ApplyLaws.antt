@@ -1,5 +1,6 @@
 -- The laws of `src/apply.rt`: one record, and the records of a plan one after the other, as the plan reader gives them. Assumes nothing.
 use mathlib.Core.Path.{_≡_, refl, sym, ap, ap₂, _∙_}
+use mathlib.Core.Bool.{Bool, true, false}
 use mathlib.Core.List.{List, [], _∷_, _++_, append-nil}
 use Prim.Native.Nat.{ℕ, zero, suc, _+_, _-_, _*_, _/_, _%_, _≤_, _<_}
 use native.Mathlib.Omega.{arith}
@@ -7,41 +8,49 @@ use lib.ListN.{length, drop, take}
 use lib.Seq.{drop-drop, drop-length, paste, take-paste, take-length}
 use Rattle.record.specs.declared.Record.{Record}
 use Rattle.record.specs.declared.Record.the-variants.{Insert, Delete, Malformed}
-use Rattle.record.specs.declared.reader.Step.{Step}
-use Rattle.record.specs.declared.reader.Step.the-variants.{Read, End}
-use Rattle.record.specs.Reader.{recordAt, stepAt}
-use Rattle.record.proofs.ReaderLaws.{step-read, step-end}
+use Rattle.record.specs.declared.reader.Reading.{Reading}
+use Rattle.record.specs.declared.reader.Reading.the-variants.{Read, End}
+use Rattle.record.specs.Reader.{recordAt, readingAt}
+use Rattle.record.proofs.ReaderLaws.{reading-read, reading-end}
 use Rattle.sheet.specs.declared.answer.Answer.{Answer}
 use Rattle.sheet.specs.Answers.{answer, decided}
 use Rattle.sheet.specs.Layout.{Shape, setBits}
 use Rattle.sheet.proofs.LayoutLaws.{square-le}
 use Rattle.sheet.proofs.AnswerLaws.{decided-old}
-use Rattle.edit.specs.Edit.{insertEdge, deleteEdge}
+use Rattle.edit.specs.Edit.{edgeEdit, insertEdge, deleteEdge}
 use Rattle.edit.specs.Outcome.{editAnswer, editAfter}
 use Rattle.edit.proofs.Refusals.{edit-refused}
-use Rattle.plan.specs.Records.{firstRecords, records, numberOn, leftBy, Applied, applied}
+use Rattle.plan.specs.Records.{records, numberOn, leftBy, Applied, applied}
 use Rattle.plan.specs.Calls.{appliedPlan}
 use Rattle.plan.specs.Internal.{Reached, AppliedAll}
+use Rattle.plan.proofs.RecordsLaws.{firstRecords, records-first}
 use Rattle.plan.proofs.AppliedLaws.{applied-place}
 
 -- ---- one record
 
+-- the record that inserts an edge, or deletes it
+abbrev pub edgeRecord : Bool → ℕ → ℕ → Record
+edgeRecord true u v = Insert u v
+edgeRecord false u v = Delete u v
+
 -- the ways out of `apply_record`: r is what the edit answered, and t what it left
+module _ (inserts : Bool) (n : ℕ) (s : List ℕ) (x : Record) (u v : ℕ) (ex : x ≡ edgeRecord inserts u v) where
+  pub record-edge : (r : Answer) → r ≡ editAnswer (edgeEdit inserts n u v) s → r .number ≡ numberOn n s x
+  unfolding numberOn
+  record-edge r e = ap (λ (y : Answer). y .number) e ∙ (go inserts ∙ ap (numberOn n s) (sym ex))
+    where
+      go : (b : Bool) → editAnswer (edgeEdit b n u v) s .number ≡ numberOn n s (edgeRecord b u v)
+      go true = refl
+      go false = refl
+
+  pub left-edge : (t : List ℕ) → t ≡ editAfter (edgeEdit inserts n u v) s → t ≡ leftBy n s x
+  left-edge t e = e ∙ (go inserts ∙ ap (leftBy n s) (sym ex))
+    where
+      go : (b : Bool) → editAfter (edgeEdit b n u v) s ≡ leftBy n s (edgeRecord b u v)
+      go true = refl
+      go false = refl
+
 module _ (n : ℕ) (s : List ℕ) (x : Record) where
-  pub record-inserts : (u v : ℕ) → x ≡ Insert u v → (r : Answer) → r ≡ editAnswer (insertEdge n u v) s → r .number ≡ numberOn n s x
-  unfolding numberOn
-  record-inserts u v ex r e = rw ex (ap (λ (y : Answer). y .number) e)
-
-  pub left-inserts : (u v : ℕ) → x ≡ Insert u v → (t : List ℕ) → t ≡ editAfter (insertEdge n u v) s → t ≡ leftBy n s x
-  left-inserts u v ex t e = rw ex e
-
-  pub record-deletes : (u v : ℕ) → x ≡ Delete u v → (r : Answer) → r ≡ editAnswer (deleteEdge n u v) s → r .number ≡ numberOn n s x
-  unfolding numberOn
-  record-deletes u v ex r e = rw ex (ap (λ (y : Answer). y .number) e)
-
-  pub left-deletes : (u v : ℕ) → x ≡ Delete u v → (t : List ℕ) → t ≡ editAfter (deleteEdge n u v) s → t ≡ leftBy n s x
-  left-deletes u v ex t e = rw ex e
-
   pub record-malformed : x ≡ Malformed → 14 ≡ numberOn n s x
   unfolding numberOn
   record-malformed ex = rw ex refl
@@ -51,7 +60,7 @@ module _ (n : ℕ) (s : List ℕ) (x : Record) where
 
 module _ (n : ℕ) (s : List ℕ) where
   -- a record that is refused leaves every word
-  pub left-refused : (x : Record) → ¬ (numberOn n s x ≡ 0) → leftBy n s x ≡ s
+  left-refused : (x : Record) → ¬ (numberOn n s x ≡ 0) → leftBy n s x ≡ s
   unfolding numberOn
   left-refused (Insert u v) d = edit-refused (insertEdge n u v) s d .1
   left-refused (Delete u v) d = edit-refused (deleteEdge n u v) s d .1
@@ -78,15 +87,15 @@ module _ (n : ℕ) (s plan : List ℕ) where
   pub applying-start : Applying n s plan 0 s
   applying-start = let e : length plan / 8 ≡ length plan / 8 - 0 = omega arith in record {
     within = omega arith;
-    goesOn = ap (λ (m : ℕ). applied n (firstRecords m plan) s 1) e;
+    goesOn = ap (λ (l : List Record). applied n l s 1) (records-first plan ∙ ap (λ (m : ℕ). firstRecords m plan) e);
   }
 
   -- z is what the plan reader gives at the record k
-  module _ (k : ℕ) (t : List ℕ) (whole : length plan % 8 ≡ 0) (was : Applying n s plan k t) (z : Step) (ez : z ≡ stepAt plan k) where
+  module _ (k : ℕ) (t : List ℕ) (whole : length plan % 8 ≡ 0) (was : Applying n s plan k t) (z : Reading) (ez : z ≡ readingAt plan k) where
     pub applying-end : z ≡ End → (r : Answer) → r ≡ answer 0 0 0 → Reached (appliedPlan n s plan) r t
     unfolding firstRecords applied
     applying-end over r er =
-        let e : length plan / 8 - k ≡ 0 = omega (arith, was .within, step-end plan k (sym ez ∙ over)) in
+        let e : length plan / 8 - k ≡ 0 = omega (arith, was .within, reading-end plan k (sym ez ∙ over)) in
         let f : appliedPlan n s plan ≡ record { number = 0; place = 0; words = t }
         = was .goesOn ∙ ap (λ (m : ℕ). applied n (firstRecords m (drop (8 * k) plan)) t (suc k)) e in
         record { answered = er ∙ ap (λ (p : Applied). answer (p .number) (p .place) 0) (sym f); words = ap (λ (p : Applied). p .words) (sym f) }
@@ -94,7 +103,7 @@ module _ (n : ℕ) (s plan : List ℕ) where
     -- x is the record, m the number of the next; j is what its edit answered, and t′ what it left
     module _ (x : Record) (m : ℕ) (read : z ≡ Read x m) (j : ℕ) (t′ : List ℕ) (ej : j ≡ numberOn n t x) (et : t′ ≡ leftBy n t x) where
       here : (8 * k < length plan) × (x ≡ recordAt plan k) × (m ≡ suc k)
-      here = step-read plan k x m (sym ez ∙ read)
+      here = reading-read plan k x m (sym ez ∙ read)
 
       -- what the records after it make
       abbrev rest : Applied

@@ -1,37 +1,27 @@
 -- Which insertions of one edge close a cycle by the model, and which lists of records stop at one. Assumes nothing.
 use mathlib.Core.Path.{_≡_, refl, sym, subst}
-use mathlib.Core.Logic.{_⊎_, inl, inr}
-use mathlib.Core.Bool.{Bool, true, false}
+use mathlib.Core.Logic.{inl}
+use mathlib.Core.Bool.{true, false}
 use mathlib.Core.List.{List, _∷_, _++_}
-use Prim.Native.Nat.{ℕ, suc, _≤_, _<_}
-use native.Mathlib.Nat.{lt-of-not-le}
+use Prim.Native.Nat.{ℕ, suc}
 use native.Mathlib.Omega.{arith}
 use lib.ListN.{length}
 use Rattle.record.specs.declared.Record.{Record}
 use Rattle.record.specs.declared.Record.the-variants.{Insert, Delete, Malformed}
-use Rattle.graph.specs.Graph.{Cycle}
 use Rattle.sheet.specs.Table.{First}
 use Rattle.sheet.specs.Conditions.{BadVertices}
 use Rattle.sheet.proofs.TableLaws.{first-other, first-last}
-use Rattle.edit.specs.Edit.{one, edgeEdit, insertEdge, deleteEdge}
-use Rattle.edit.specs.Table.{SomeEdge, effects}
-use Rattle.edit.specs.Model.{Model, effect, modelConditions}
+use Rattle.edit.specs.Edit.{insertEdge, deleteEdge}
+use Rattle.edit.specs.Model.{Model, modelConditions}
 use Rattle.edit.proofs.NamedLaws.{some-one}
 use Rattle.plan.specs.Taken.{RecordNumber, Stops, Closing, ClosesAt}
+use Rattle.plan.proofs.EffectLaws.{edge-effects, insert-first}
 use Rattle.plan.proofs.AppliedLaws.{taken-vertices}
 
 module _ (m : Model) (u v : ℕ) where
-  -- an edit of one edge that 8 refuses names two vertices, and is refused for what it does
-  eight-effects : (inserts : Bool) → First (modelConditions m (edgeEdit inserts (m .vertices) u v)) 8
-      → (u < m .vertices) × (v < m .vertices)
-      × First (effects inserts (m .vertices) (one u v) (m .edge) (Cycle (m .vertices) (effect m (edgeEdit inserts (m .vertices) u v) .edge))) 8
-  eight-effects inserts f =
-      let a = first-other (λ e. omega (arith, e)) (first-other (λ e. omega (arith, e)) (first-other (λ e. omega (arith, e)) f .1) .1) in
-      (lt-of-not-le (λ l. a .0 (inl l)), lt-of-not-le (λ l. a .0 (inr l)), a .1)
-
   insert-closing : First (modelConditions m (insertEdge (m .vertices) u v)) 8 → Closing (m .vertices) m u v
   insert-closing f =
-      let a = eight-effects true f in
+      let a = edge-effects m u v true 8 (omega arith) f in
       let b = first-other (λ e. omega (arith, e)) (a .2) in
       let c = first-other (λ e. omega (arith, e)) (b .1) in
       record {
@@ -43,14 +33,10 @@ module _ (m : Model) (u v : ℕ) where
       }
 
   closing-insert : ¬ (BadVertices (m .vertices)) → Closing (m .vertices) m u v → First (modelConditions m (insertEdge (m .vertices) u v)) 8
-  closing-insert few c =
-      let within : ¬ ((m .vertices ≤ u) ⊎ (m .vertices ≤ v)) = λ o. elim o [ inl l ↦ omega (arith, c .from) | inr l ↦ omega (arith, c .to) ] in
-      let it : (P : ℕ → ℕ → Type 0) → SomeEdge (m .vertices) (one u v) P → P u v = λ P. some-one (m .vertices) u v P (c .from) (c .to) .0 in
-      let old : ¬ (SomeEdge (m .vertices) (one u v) (λ i j. m .edge i j ≡ 1)) = λ o. c .new (it (λ i j. m .edge i j ≡ 1) o) in
-      inr (few, inr (λ d. d refl, inr (within, inr (λ o. c .apart (it (λ i j. i ≡ j) o), inr (old, inl (c .cycle, refl))))))
+  closing-insert few c = insert-first m u v few (c .from) (c .to) (c .apart) (c .new) 8 (inl (c .cycle, refl))
 
   delete-never : ¬ (First (modelConditions m (deleteEdge (m .vertices) u v)) 8)
-  delete-never f = omega (arith, first-other (λ e. omega (arith, e)) (eight-effects false f .2) .1)
+  delete-never f = omega (arith, first-other (λ e. omega (arith, e)) (edge-effects m u v false 8 (omega arith) f .2) .1)
 
 -- ---- lists of records
 

@@ -13,7 +13,7 @@ use Rattle.sheet.specs.Answers.{answer}
 use Rattle.sheet.specs.Layout.{setBits, build, redoneWord, redone, emptySheet}
 use Rattle.sheet.proofs.Examples.{D}
 use Rattle.edit.specs.Outcome.{some, someEdge, closes, editedRow, editedBy, editedCount, edited}
-use Rattle.plan.specs.Records.{firstRecords, numberOn, applied}
+use Rattle.plan.specs.Records.{numberOn, applied}
 use Rattle.plan.specs.PlanOf.{edgeBytes, planOf}
 use Rattle.plan.specs.Calls.{lengthNumber, appliedPlan, appliedAnswer}
 
@@ -26,12 +26,12 @@ T = encoded deleteLetter
 
 -- `L 04 00`, `L 03 04`: the second record would close a cycle
 pub ring : appliedAnswer 5 (appliedPlan 5 D (L 4 0 ++ L 3 4)) ≡ answer 8 2 0
-unfolding D firstRecords applied numberOn decoded areDigits firstTrue some someEdge closes edited editedRow editedCount editedBy redone redoneWord build ofBits fromSum toSum sum delta setBits bitCount
+unfolding D gather applied numberOn decoded areDigits firstTrue some someEdge closes edited editedRow editedCount editedBy redone redoneWord build ofBits fromSum toSum sum delta setBits bitCount
 ring = refl
 
 -- the first record that is refused counts: 7 at the second, though the third is malformed
 pub absent : appliedAnswer 5 (appliedPlan 5 D (T 0 1 ++ (T 0 1 ++ (0 ∷ 0 ∷ 0 ∷ 0 ∷ 0 ∷ 0 ∷ 0 ∷ 0 ∷ [])))) ≡ answer 7 2 0
-unfolding D firstRecords applied numberOn decoded areDigits firstTrue some someEdge closes edited editedRow editedCount editedBy redone redoneWord build ofBits fromSum toSum sum delta setBits bitCount
+unfolding D gather applied numberOn decoded areDigits firstTrue some someEdge closes edited editedRow editedCount editedBy redone redoneWord build ofBits fromSum toSum sum delta setBits bitCount
 absent = refl
 
 -- the plan of D, and D from it
@@ -40,7 +40,7 @@ unfolding D gather edgeBytes
 written-so = refl
 
 pub read-so : appliedPlan 5 (emptySheet 5) (L 0 1 ++ (L 0 2 ++ (L 1 3 ++ L 2 3))) .words ≡ D
-unfolding D firstRecords applied numberOn decoded areDigits firstTrue some someEdge closes edited editedRow editedCount editedBy redone redoneWord build emptySheet ofBits fromSum toSum sum delta
+unfolding D gather applied numberOn decoded areDigits firstTrue some someEdge closes edited editedRow editedCount editedBy redone redoneWord build emptySheet ofBits fromSum toSum sum delta
 read-so = refl
 
 -- a byte too few, the greatest length, and one record more

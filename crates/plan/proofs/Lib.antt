@@ -6,6 +6,8 @@ pub mod AppliedLaws
 pub mod PlanOfLaws
 pub mod OrderLaws
 pub mod PlaceLaws
+pub mod RecordsLaws
+pub mod EffectLaws
 pub mod ApplyLaws
 pub mod WriteLaws
 pub mod CallLaws

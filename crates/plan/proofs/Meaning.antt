@@ -7,6 +7,7 @@ use native.Mathlib.Decide.{ℕ-discrete}
 use native.Mathlib.Omega.{arith}
 use lib.ListN.{length, take, drop}
 use lib.Seq.{take-append-seam}
+use Rattle.sums.specs.Gather.{gather}
 use Rattle.text.specs.Text.{written}
 use Rattle.record.specs.Record.{OfForm}
 use Rattle.sheet.specs.declared.answer.Answer.{Answer}
@@ -14,14 +15,14 @@ use Rattle.sheet.specs.Table.{_gives_, First}
 use Rattle.sheet.specs.Answers.{answer, decided}
 use Rattle.sheet.specs.Layout.{setBits}
 use Rattle.sheet.specs.Valid.{Valid}
-use Rattle.sheet.proofs.TableLaws.{first-only, first-past}
+use Rattle.sheet.proofs.TableLaws.{first-only, first-iff, first-past}
 use Rattle.sheet.proofs.AnswerLaws.{decided-old, answer-ext}
 use Rattle.recount.proofs.Meaning.{valid-validates}
 use Rattle.edit.specs.Model.{Model, opened, Fresh}
 use Rattle.edit.proofs.FreshLaws.{modelled-valid, valid-modelled}
 use Rattle.model.specs.Run.{Run}
 use Rattle.model.proofs.WholeLists.{whole-list}
-use Rattle.plan.specs.Records.{firstRecords, records, edits, applied}
+use Rattle.plan.specs.Records.{records, edits, applied}
 use Rattle.plan.specs.Taken.{Taken, Stops, ClosesAt}
 use Rattle.plan.specs.Accepted.{AcceptedPlan}
 use Rattle.plan.specs.PlanOf.{planOf}
@@ -93,6 +94,10 @@ module _ (n : ℕ) (s plan : List ℕ) (r : Answer) (t : List ℕ) (h : ReadPlan
         let e = found 0 f in
         rw e (applied-stops n (records plan) (opened n s) s (valid-modelled (accepted-valid n s (BadPlan plan gives 13 ∷ []) f)) refl (rw e at d))
 
+    -- the place of a record that is refused is 1 or more
+    first-place : ¬ (r .number ≡ 0) → ¬ (r .place ≡ 0)
+    first-place d z = omega (arith, z, first-stops d .place)
+
     -- ONCE THE CHECKS PASS, a plan is accepted exactly if the model takes all its records
     pub read-accepted-iff : (r .number ≡ 0) ↔ ((m : Model) × Taken (opened n s) (records plan) m)
     read-accepted-iff = (
@@ -123,6 +128,16 @@ module _ (n : ℕ) (s plan : List ℕ) (r : Answer) (t : List ℕ) (h : ReadPlan
       λ c. read-stops-iff 8 (suc (length (c .before))) (λ e. omega (arith, e)) .1 (closes-stops (opened n s) (records plan) (first-past f .0) c) .0,
     )
 
+  -- BEFORE THE FIRST RECORD: it is refused by k with the place 0 exactly if k is the number of the first condition on sheet and length that holds
+  pub read-early-iff : (k : ℕ) → ¬ (k ≡ 0) → ((r .number ≡ k) × (r .place ≡ 0)) ↔ First (readConditions n s plan) k
+  read-early-iff k d = (
+    λ e. elim (ℕ-discrete (h .k) 0) [
+      | yes z ↦ absurd (first-place (rw z at (h .first)) (rw (e .0) d) (e .1))
+      | no c ↦ rw (sym (ap (λ (x : Answer). x .number) (read-early (h .k) c (h .first))) ∙ e .0) at (h .first)
+    ],
+    λ f. let e = read-early k d f in (ap (λ (x : Answer). x .number) e, ap (λ (x : Answer). x .place) e),
+  )
+
 -- the contract leaves nothing open: it fixes the answer and every word
 pub read-only : (n : ℕ) (s plan : List ℕ) (r r′ : Answer) (t t′ : List ℕ) → ReadPlan n s plan r t → ReadPlan n s plan r′ t′ → (r ≡ r′) × (t ≡ t′)
 read-only n s plan r r′ t t′ h h′ =
@@ -131,7 +146,7 @@ read-only n s plan r r′ t t′ h h′ =
 
 -- the empty plan is accepted on every valid sheet, and changes nothing
 pub read-empty : (n : ℕ) (s : List ℕ) (r : Answer) (t : List ℕ) → Valid n s → ReadPlan n s [] r t → (r ≡ answer 0 0 (setBits n s)) × (t ≡ s)
-unfolding firstRecords applied
+unfolding gather applied
 read-empty n s r t v h =
     let few : ¬ (BadPlan []) = λ c. elim c [ inl d ↦ d refl | inr l ↦ omega (arith, l) ] in
     let e = found n s [] r t h 0 (valid-passed n s v (BadPlan [] gives 13 ∷ []) 0 (inr (few, refl))) in
@@ -140,6 +155,10 @@ read-empty n s r t v h =
 -- ---- write_plan
 
 module _ (n : ℕ) (s p : List ℕ) (r : Answer) (q : List ℕ) (h : WritePlan n s p r q) where
+  -- its number is that of the first condition that holds, and 0 exactly if none does
+  pub write-table : (k : ℕ) → (r .number ≡ k) ↔ First (writeConditions n s (length p)) k
+  write-table k = first-iff (writeConditions n s (length p)) (r .number) k (h .number)
+
   -- where it refuses, the buffer is as it was
   pub write-refused : ¬ (r .number ≡ 0) → (q ≡ p) × (r .value ≡ 0)
   write-refused d = (h .bytes ∙ decided-old (r .number) (written (planOf n s) p) p d, h .value ∙ decided-old (r .number) (length (planOf n s)) 0 d)

@@ -1,6 +1,6 @@
 -- The plan of a sheet: it says the edges and nothing else, 8 bytes for each, and it is read back as the records of the edges. Assumes
 -- nothing.
-use mathlib.Core.Path.{_≡_, refl, sym, ap, ap₂, _∙_}
+use mathlib.Core.Path.{_≡_, refl, ap, ap₂, _∙_}
 use mathlib.Core.Logic.{inl, inr, _↔_}
 use mathlib.Core.Bool.{Bool, true, false, cond}
 use mathlib.Core.List.{List, [], _∷_, _++_}
@@ -13,11 +13,11 @@ use Rattle.sums.proofs.SumLaws.{sum-cong}
 use Rattle.sums.proofs.GatherLaws.{gather-cong, gather-length}
 use Rattle.word.specs.Bit.{hasBit}
 use Rattle.word.proofs.BitLaws.{bit-cases}
-use Rattle.graph.specs.Graph.{_isIn_, Distinct}
-use Rattle.graph.proofs.Lists.{gather-in, gather-of, gather-distinct}
+use Rattle.graph.specs.Graph.{_isIn_}
+use Rattle.graph.proofs.Lists.{gather-in, gather-of}
 use Rattle.sums.specs.Gather.{gather}
 use Rattle.record.specs.declared.Record.{Record}
-use Rattle.record.specs.declared.Record.the-variants.{Insert, Delete, Malformed}
+use Rattle.record.specs.declared.Record.the-variants.{Insert}
 use Rattle.record.specs.Record.{insertLetter, encoded, decoded}
 use Rattle.record.proofs.RecordLaws.{decoded-encoded}
 use Rattle.sheet.specs.Layout.{rowAt, edgeAt, setBits}
@@ -25,9 +25,10 @@ use Rattle.sheet.specs.Valid.{Valid}
 use Rattle.sheet.proofs.Meaning.{valid-edges-le}
 use Rattle.edit.specs.Model.{opened, edgeCount}
 use Rattle.edit.proofs.FreshLaws.{valid-modelled, fresh-value}
-use Rattle.plan.specs.Records.{firstRecords, records}
-use Rattle.plan.specs.PlanOf.{edgeInsert, rowInserts, edgeRecords, edgeBytes, planOf}
+use Rattle.plan.specs.Records.{records}
+use Rattle.plan.specs.PlanOf.{edgeInsert, rowInserts, edgeRecords, edgeBytes, planOf, fromOf, toOf}
 use Rattle.plan.specs.Calls.{mostBytes}
+use Rattle.plan.proofs.RecordsLaws.{firstRecords, records-first}
 
 -- what is written is determined by the edges
 pub plan-edges : (n : ℕ) (s t : List ℕ) → ((i j : ℕ) → i < n → j < n → edgeAt s i j ≡ edgeAt t i j) → planOf n s ≡ planOf n t
@@ -47,7 +48,7 @@ edge-records-length n s =
     gather-length n (rowInserts n s) ∙ sum-cong n _ _ (λ i hi. gather-length n (edgeInsert s i) ∙ sum-cong n _ _ (λ j hj. said-length s i j))
 
 -- each of them is an edge
-said-of : (s : List ℕ) (i j : ℕ) (x : Record) → x isIn edgeInsert s i j → (x ≡ Insert i j) × (edgeAt s i j ≡ 1)
+pub said-of : (s : List ℕ) (i j : ℕ) (x : Record) → x isIn edgeInsert s i j → (x ≡ Insert i j) × (edgeAt s i j ≡ 1)
 said-of s i j x m =
     elim (bit-cases (rowAt s i) j) [
       | inl e ↦ absurd (rw e at m)
@@ -63,20 +64,9 @@ edge-records-of n s x m =
     let p = said-of s (r .0) (q .0) x (q .2) in
     (r .0, r .1, q .0, q .1, p .0, p .1)
 
--- the two vertices of a record
-from : Record → ℕ
-from (Insert u v) = u
-from (Delete u v) = u
-from Malformed = 0
-
-to : Record → ℕ
-to (Insert u v) = v
-to (Delete u v) = v
-to Malformed = 0
-
 pub insert-only : (u v i j : ℕ) → Insert u v ≡ Insert i j → (u ≡ i) × (v ≡ j)
-unfolding from to
-insert-only u v i j e = (ap from e, ap to e)
+unfolding fromOf toOf
+insert-only u v i j e = (ap fromOf e, ap toOf e)
 
 -- and each edge is one of them
 said-in : (s : List ℕ) (i j : ℕ) → edgeAt s i j ≡ 1 → Insert i j isIn edgeInsert s i j
@@ -91,24 +81,6 @@ edge-records-iff n s i j hi hj = (
       ap₂ (λ (x y : ℕ). edgeAt s x y) (q .0) (q .1) ∙ r .5,
   λ e. gather-in n (rowInserts n s) (Insert i j) i hi (gather-in n (edgeInsert s i) (Insert i j) j hj (said-in s i j e)),
 )
-
--- no edge is said twice
-said-distinct : (t : Bool) (x : Record) → Distinct (cond t (x ∷ []) [])
-said-distinct true x = ((λ m. m), tt)
-said-distinct false x = tt
-
-row-from : (n : ℕ) (s : List ℕ) (i : ℕ) (x : Record) → x isIn rowInserts n s i → from x ≡ i
-unfolding from
-row-from n s i x m = let q = gather-of n (edgeInsert s i) x m in ap from (said-of s i (q .0) x (q .2) .0)
-
-pub edge-records-distinct : (n : ℕ) (s : List ℕ) → Distinct (edgeRecords n s)
-unfolding edgeRecords to
-edge-records-distinct n s =
-    gather-distinct n (rowInserts n s)
-    (λ i hi.
-    gather-distinct n (edgeInsert s i) (λ j hj. said-distinct (hasBit (rowAt s i) j) (Insert i j))
-    (λ j k x p q. sym (ap to (said-of s i j x p .0)) ∙ ap to (said-of s i k x q .0)))
-    (λ i k x p q. sym (row-from n s i x p) ∙ row-from n s k x q)
 
 -- ---- reading
 
@@ -159,7 +131,7 @@ pub plan-records : (n : ℕ) (s : List ℕ) → n ≤ 64 → records (planOf n s
 plan-records n s h =
     let c = plan-coded n s h in
     let e : length (planOf n s) / 8 ≡ length (edgeRecords n s) = omega (arith, c .long) in
-    ap (λ (m : ℕ). firstRecords m (planOf n s)) e ∙ c .said
+    records-first (planOf n s) ∙ (ap (λ (m : ℕ). firstRecords m (planOf n s)) e ∙ c .said)
 
 pub plan-length : (n : ℕ) (s : List ℕ) → Valid n s → length (planOf n s) ≡ 8 * setBits n s
 plan-length n s v =

@@ -1,7 +1,7 @@
 -- THE ROUND TRIP: what is written of a valid sheet is read into an empty one as that very sheet, word for word. Assumes nothing.
 use mathlib.Core.Path.{_≡_, refl, sym, ap, ap₂, subst, _∙_}
 use mathlib.Core.Logic.{_⊎_, inl, inr, _↔_}
-use mathlib.Core.Bool.{Bool, true, false, false≢true}
+use mathlib.Core.Bool.{true}
 use mathlib.Core.List.{List, [], _∷_}
 use Prim.Native.Nat.{ℕ, suc, _≤_, _<_}
 use native.Mathlib.Decide.{ℕ-discrete}
@@ -19,38 +19,26 @@ use Rattle.sheet.specs.Valid.{Valid}
 use Rattle.sheet.proofs.TableLaws.{first-only}
 use Rattle.sheet.proofs.ValidLaws.{edge-le, accepted-valid, valid-passed}
 use Rattle.sheet.proofs.Meaning.{empty-edge, empty-valid}
-use Rattle.edit.specs.Edit.{one, Edit, insertEdge, named, marked}
+use Rattle.edit.specs.Edit.{Edit, insertEdge}
 use Rattle.edit.specs.Outcome.{editNumber, editWords}
 use Rattle.edit.specs.Model.{Model, modelConditions}
-use Rattle.edit.proofs.NamedLaws.{named-one, some-one}
 use Rattle.edit.proofs.FreshLaws.{Modelled, modelled-edge, valid-modelled, fresh-only}
 use Rattle.edit.proofs.StepLaws.{number-first, accepted-modelled}
 use Rattle.plan.specs.Records.{numberOn, leftBy, Applied, applied}
 use Rattle.plan.specs.PlanOf.{edgeRecords, planOf}
 use Rattle.plan.specs.Calls.{BadPlan, readConditions, appliedPlan, appliedAnswer, ReadPlan, ShortBuffer, WritePlan}
 use Rattle.plan.proofs.Meaning.{write-taken}
+use Rattle.plan.proofs.EffectLaws.{with, with-cases, insert-first}
+use Rattle.plan.proofs.OrderLaws.{edge-records-distinct}
 use Rattle.plan.proofs.AppliedLaws.{applied-next}
-use Rattle.plan.proofs.PlanOfLaws.{edge-records-iff, edge-records-of, edge-records-distinct, insert-only, plan-records, plan-short}
+use Rattle.plan.proofs.PlanOfLaws.{edge-records-iff, edge-records-of, insert-only, plan-records, plan-short}
 
 -- ---- one edge more
 
 -- the edges e, and the one from u to v
-abbrev with : (ℕ → ℕ → ℕ) → ℕ → ℕ → ℕ → ℕ → ℕ
-with e u v i j = marked true (named (one u v) i j) (e i j)
-
--- which is there afterwards, and any other is as it was
-with-cases : (e : ℕ → ℕ → ℕ) (u v i j : ℕ)
-    → ((i ≡ u) × (j ≡ v) × (with e u v i j ≡ 1)) ⊎ ((¬ ((i ≡ u) × (j ≡ v))) × (with e u v i j ≡ e i j))
-with-cases e u v i j = go (named (one u v) i j) (named-one u v i j)
-  where
-    go : (t : Bool) → (t ≡ true) ↔ ((i ≡ u) × (j ≡ v))
-        → ((i ≡ u) × (j ≡ v) × (marked true t (e i j) ≡ 1)) ⊎ ((¬ ((i ≡ u) × (j ≡ v))) × (marked true t (e i j) ≡ e i j))
-    go true p = let q = p .0 refl in inl (q .0, q .1, refl)
-    go false p = inr (λ q. false≢true (p .1 q), refl)
-
-with-iff : (e : ℕ → ℕ → ℕ) (u v i j : ℕ) → (with e u v i j ≡ 1) ↔ (((i ≡ u) × (j ≡ v)) ⊎ (e i j ≡ 1))
+with-iff : (e : ℕ → ℕ → ℕ) (u v i j : ℕ) → (with true e u v i j ≡ 1) ↔ (((i ≡ u) × (j ≡ v)) ⊎ (e i j ≡ 1))
 with-iff e u v i j =
-    elim (with-cases e u v i j) [
+    elim (with-cases true e u v i j) [
       | inl c ↦ (λ q. inl (c .0, c .1), λ q. c .2)
       | inr c ↦ (λ q. inr (sym (c .1) ∙ q), λ q. elim q [ inl d ↦ absurd (c .0 d) | inr d ↦ c .1 ∙ d ])
     ]
@@ -58,15 +46,15 @@ with-iff e u v i j =
 -- ---- insertions that are all accepted
 
 -- every record is accepted, and they leave s
-abbrev pub whole : List ℕ → Applied
+abbrev whole : List ℕ → Applied
 whole s = record { number = 0; place = 0; words = s }
 
 -- the model of n vertices and the edges e
-abbrev pub model : ℕ → (ℕ → ℕ → ℕ) → Model
+abbrev model : ℕ → (ℕ → ℕ → ℕ) → Model
 model n e = record { vertices = n; edge = e }
 
 -- q has come through l, to the sheet of the edges e together with those that l inserts
-pub record Gained (n : ℕ) (e : ℕ → ℕ → ℕ) (l : List Record) (q : Applied) : Type 0 where
+record Gained (n : ℕ) (e : ℕ → ℕ → ℕ) (l : List Record) (q : Applied) : Type 0 where
   pub words : List ℕ
   pub through : q ≡ whole words
   pub edge : ℕ → ℕ → ℕ
@@ -82,7 +70,7 @@ gained-none n e s m = record {
   edges = λ i j. (λ h. inl h, λ h. elim h [ inl a ↦ a | inr a ↦ absurd a ]);
 }
 
-gained-more : (n : ℕ) (e : ℕ → ℕ → ℕ) (u v : ℕ) (l : List Record) (q : Applied) → Gained n (with e u v) l q → Gained n e (Insert u v ∷ l) q
+gained-more : (n : ℕ) (e : ℕ → ℕ → ℕ) (u v : ℕ) (l : List Record) (q : Applied) → Gained n (with true e u v) l q → Gained n e (Insert u v ∷ l) q
 gained-more n e u v l q g = record {
   words = g .words;
   through = g .through;
@@ -102,28 +90,24 @@ gained-more n e u v l q g = record {
       );
 }
 
--- a condition that does not hold is passed over
-first-over : {P Q : Type 0} {j k : ℕ} → ¬ P → Q → (P × (k ≡ j)) ⊎ ((¬ P) × Q)
-first-over d q = inr (d, q)
-
 module _ (n : ℕ) (w : ℕ → ℕ → ℕ) where
   -- every edge of e is one of w
-  abbrev pub Within : (ℕ → ℕ → ℕ) → Type 0
+  abbrev Within : (ℕ → ℕ → ℕ) → Type 0
   Within e = (i j : ℕ) → i < n → j < n → Edge n e i j → Edge n w i j
 
   -- x inserts an edge of w that is not one of e
-  abbrev pub New : (ℕ → ℕ → ℕ) → Record → Type 0
+  abbrev New : (ℕ → ℕ → ℕ) → Record → Type 0
   New e (Insert u v) = (u < n) × (v < n) × Edge n w u v × (e u v ≡ 0)
   New e (Delete u v) = ⊥
   New e Malformed = ⊥
 
-  with-within : (e : ℕ → ℕ → ℕ) (u v : ℕ) → Edge n w u v → Within e → Within (with e u v)
+  with-within : (e : ℕ → ℕ → ℕ) (u v : ℕ) → Edge n w u v → Within e → Within (with true e u v)
   with-within e u v h within i j hi hj p =
-      elim (with-cases e u v i j) [ inl c ↦ rw (c .0, c .1) h | inr c ↦ within i j hi hj (rw (c .1) at p) ]
+      elim (with-cases true e u v i j) [ inl c ↦ rw (c .0, c .1) h | inr c ↦ within i j hi hj (rw (c .1) at p) ]
 
-  with-new : (e : ℕ → ℕ → ℕ) (u v : ℕ) (x : Record) → ¬ (x ≡ Insert u v) → New e x → New (with e u v) x
+  with-new : (e : ℕ → ℕ → ℕ) (u v : ℕ) (x : Record) → ¬ (x ≡ Insert u v) → New e x → New (with true e u v) x
   with-new e u v (Insert i j) d (hi, hj, h, z) =
-      (hi, hj, h, elim (with-cases e u v i j) [ inl c ↦ absurd (d (ap₂ (λ (x y : ℕ). Insert x y) (c .0) (c .1))) | inr c ↦ c .1 ∙ z ])
+      (hi, hj, h, elim (with-cases true e u v i j) [ inl c ↦ absurd (d (ap₂ (λ (x y : ℕ). Insert x y) (c .0) (c .1))) | inr c ↦ c .1 ∙ z ])
   with-new e u v (Delete i j) d h = h
   with-new e u v Malformed d h = h
 
@@ -135,24 +119,21 @@ module _ (n : ℕ) (w : ℕ → ℕ → ℕ) where
     new-passes : (e : ℕ → ℕ → ℕ) (u v : ℕ) → 1 ≤ n → n ≤ 64 → Within e → New e (Insert u v)
         → First (modelConditions (model n e) (insertEdge n u v)) 0
     new-passes e u v low high within (hu, hv, h, z) =
-        first-over (λ c. elim c [ inl l ↦ omega arith | inr l ↦ omega arith ])
-        (first-over (λ d. d refl)
-        (first-over (λ c. elim c [ inl l ↦ omega arith | inr l ↦ omega arith ])
-        (first-over (λ q. no-loop u hu (rw (← some-one n u v (λ i j. i ≡ j) hu hv .0 q) at h))
-        (first-over (λ q. omega (arith, z, some-one n u v (λ i j. e i j ≡ 1) hu hv .0 q))
-        (first-over (λ c. acyclic (cycle-widen n (with e u v) w (with-within e u v h within) c)) refl)))))
+        insert-first (model n e) u v (λ c. elim c [ inl l ↦ omega arith | inr l ↦ omega arith ]) hu hv
+        (λ q. no-loop u hu (rw (← q) at h)) (λ q. omega (arith, z, q)) 0
+        (inr (λ c. acyclic (cycle-widen n (with true e u v) w (with-within e u v h within) c), refl))
 
     new-accepted : (e : ℕ → ℕ → ℕ) (s : List ℕ) (u v : ℕ) → Modelled (model n e) s → Within e → New e (Insert u v)
-        → (numberOn n s (Insert u v) ≡ 0) × Modelled (model n (with e u v)) (leftBy n s (Insert u v))
+        → (numberOn n s (Insert u v) ≡ 0) × Modelled (model n (with true e u v)) (leftBy n s (Insert u v))
     unfolding numberOn
     new-accepted e s u v m within h =
         let x : Edit = insertEdge n u v in
         let f = new-passes e u v (m .low) (m .high) within h in
         let z : editNumber x s ≡ 0 = first-only (modelConditions (model n e) x) (editNumber x s) 0 (number-first (model n e) s m x) f in
-        (z, subst (Modelled (model n (with e u v))) (sym (ap (λ (k : ℕ). decided k (editWords x s) s) z)) (accepted-modelled (model n e) s m x f .1))
+        (z, subst (Modelled (model n (with true e u v))) (sym (ap (λ (k : ℕ). decided k (editWords x s) s) z)) (accepted-modelled (model n e) s m x f .1))
 
     -- records that insert edges of w, each once and none of them there, are all accepted
-    pub inserts-applied : (l : List Record) (e : ℕ → ℕ → ℕ) (s : List ℕ) (p : ℕ) → Distinct l → ((x : Record) → x isIn l → New e x)
+    inserts-applied : (l : List Record) (e : ℕ → ℕ → ℕ) (s : List ℕ) (p : ℕ) → Distinct l → ((x : Record) → x isIn l → New e x)
         → Within e → Modelled (model n e) s → Gained n e l (applied n l s p)
     unfolding applied
     inserts-applied [] e s p d new within m = gained-none n e s m
@@ -161,7 +142,7 @@ module _ (n : ℕ) (w : ℕ → ℕ → ℕ) where
         let a = new-accepted e s u v m within h in
         subst (Gained n e (Insert u v ∷ l)) (sym (applied-next n (Insert u v) l s p (a .0)))
         (gained-more n e u v l _
-        (inserts-applied l (with e u v) (leftBy n s (Insert u v)) (suc p) (d .1)
+        (inserts-applied l (with true e u v) (leftBy n s (Insert u v)) (suc p) (d .1)
         (λ x q. with-new e u v x (λ c. d .0 (rw c at q)) (new x (inr q))) (with-within e u v (h .2) within) (a .1)))
     inserts-applied (Delete u v ∷ l) e s p d new within m = absurd (new (Delete u v) (inl refl))
     inserts-applied (Malformed ∷ l) e s p d new within m = absurd (new Malformed (inl refl))
@@ -216,7 +197,7 @@ module _ (n : ℕ) (s : List ℕ) (valid : Valid n s) where
   plan-passed =
       let q = plan-short n s valid in
       valid-passed n (emptySheet n) empty-good (BadPlan (planOf n s) gives 13 ∷ []) 0
-      (first-over (λ c. elim c [ inl d ↦ d (q .1) | inr l ↦ omega (arith, q .0) ]) refl)
+      (inr (λ c. elim c [ inl d ↦ d (q .1) | inr l ↦ omega (arith, q .0) ], refl))
 
   -- THE THEOREM: reading what was written of a valid sheet into the empty sheet of as many vertices gives that sheet, word for word
   pub round-trip : (r : Answer) (t : List ℕ) → ReadPlan n (emptySheet n) (planOf n s) r t → (r ≡ answer 0 0 (setBits n s)) × (t ≡ s)

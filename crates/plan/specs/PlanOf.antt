@@ -1,8 +1,10 @@
 -- The plan of a sheet: its edges as records, ascending by from, then to, and their bytes; and what ascending means. Definitions only.
 -- Assumes nothing.
+use mathlib.Core.Path.{_≡_}
+use mathlib.Core.Logic.{_⊎_}
 use mathlib.Core.Bool.{cond}
 use mathlib.Core.List.{List, [], _∷_}
-use Prim.Native.Nat.{ℕ, _+_, _*_, _<_}
+use Prim.Native.Nat.{ℕ, _<_}
 use Rattle.word.specs.Bit.{hasBit}
 use Rattle.sums.specs.Gather.{gather}
 use Rattle.graph.specs.Graph.{_isIn_}
@@ -37,14 +39,22 @@ planOf n s = gather n (rowBytes n s)
 
 -- ---- ascending
 
--- the number of a record's edge among all edges: 64 times the vertex that it runs from, plus the one that it runs to; a malformed record
--- has no edge, and 0 stands for it
-unfoldable pub edgeNumber : Record → ℕ
-edgeNumber (Insert u v) = 64 * u + v
-edgeNumber (Delete u v) = 64 * u + v
-edgeNumber Malformed = 0
+-- the vertices that a record's edge runs from and to; a malformed record has no edge, and 0 stands for both
+unfoldable pub fromOf : Record → ℕ
+fromOf (Insert u v) = u
+fromOf (Delete u v) = u
+fromOf Malformed = 0
 
--- each edge has a lower number than all that come after it
+unfoldable pub toOf : Record → ℕ
+toOf (Insert u v) = v
+toOf (Delete u v) = v
+toOf Malformed = 0
+
+-- x comes before y: by from, then by to
+abbrev pub Lower : Record → Record → Type 0
+Lower x y = (fromOf x < fromOf y) ⊎ ((fromOf x ≡ fromOf y) × (toOf x < toOf y))
+
+-- each comes before all that stand after it
 abbrev pub Ascending : List Record → Type 0
 Ascending [] = Unit {0}
-Ascending (x ∷ l) = ((y : Record) → y isIn l → edgeNumber x < edgeNumber y) × Ascending l
+Ascending (x ∷ l) = ((y : Record) → y isIn l → Lower x y) × Ascending l

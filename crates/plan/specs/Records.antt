@@ -1,24 +1,21 @@
 -- The records of a plan, and what they do when they are applied to a sheet one after the other. Definitions only. Assumes nothing.
 use mathlib.Core.List.{List, [], _∷_, _++_}
-use Prim.Native.Nat.{ℕ, zero, suc, _/_}
-use lib.ListN.{length, take, drop}
+use Prim.Native.Nat.{ℕ, suc, _/_}
+use lib.ListN.{length}
+use Rattle.sums.specs.Gather.{gather}
 use Rattle.record.specs.declared.Record.{Record}
 use Rattle.record.specs.declared.Record.the-variants.{Insert, Delete, Malformed}
-use Rattle.record.specs.Record.{recordNumber, decoded}
+use Rattle.record.specs.Record.{recordNumber}
+use Rattle.record.specs.Reader.{recordAt}
 use Rattle.sheet.specs.Answers.{decided}
 use Rattle.edit.specs.Edit.{Edit, insertEdge, deleteEdge}
 use Rattle.edit.specs.Outcome.{editAnswer, editAfter}
 
 -- ---- what a plan says
 
--- the first m records of a plan
-unfoldable pub firstRecords : ℕ → List ℕ → List Record
-firstRecords zero plan = []
-firstRecords (suc m) plan = decoded (take 8 plan) ∷ firstRecords m (drop 8 plan)
-
--- all of them
+-- its records, one for each 8 bytes, in order
 abbrev pub records : List ℕ → List Record
-records plan = firstRecords (length plan / 8) plan
+records plan = gather (length plan / 8) (λ k. recordAt plan k ∷ [])
 
 -- what f makes of the edit of a record; a malformed one has no edit, and then it is none
 abbrev pub byEdit {ℓ} : {A : Type ℓ} → ℕ → (Edit → A) → A → Record → A

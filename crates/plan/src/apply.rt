@@ -9,7 +9,7 @@ ghost use Rattle.plan.specs.Internal.{Reached, AppliedAll};
 use crate::keep;
 use record::Record;
 use record::reader;
-use record::reader::Step;
+use record::reader::Reading;
 use sheet::Answer;
 use sheet::Refusal;
 use sheet::Sheet;
@@ -33,7 +33,7 @@ fn apply(n: usize, sheet: &mut [u64], plan: &[u8]) -> Answer
 {
     let mut k = 0;
     loop {
-        let Step::Read(record, next) = reader::read_record(plan, k) else {
+        let Reading::Read(record, next) = reader::read_record(plan, k) else {
             return Answer::accepted(0);
         };
         let number = apply_record(n, sheet, record);

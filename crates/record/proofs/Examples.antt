@@ -3,9 +3,9 @@ use mathlib.Core.Path.{_≡_, refl}
 use mathlib.Core.List.{List, [], _∷_, _++_}
 use Prim.Native.Nat.{ℕ}
 use Rattle.record.specs.declared.Record.the-variants.{Insert, Delete, Malformed}
-use Rattle.record.specs.declared.reader.Step.the-variants.{Read, End}
+use Rattle.record.specs.declared.reader.Reading.the-variants.{Read, End}
 use Rattle.record.specs.Record.{areDigits, encoded, insertLetter, deleteLetter, decoded}
-use Rattle.record.specs.Reader.{stepAt}
+use Rattle.record.specs.Reader.{readingAt}
 
 -- `L 00 01` and a line feed
 inserts : decoded (76 ∷ 32 ∷ 48 ∷ 48 ∷ 32 ∷ 48 ∷ 49 ∷ 10 ∷ []) ≡ Insert 0 1
@@ -40,14 +40,14 @@ seven-bytes = refl
 plan : List ℕ
 plan = encoded insertLetter 0 1 ++ (encoded deleteLetter 63 7 ++ (76 ∷ []))
 
-second : stepAt plan 1 ≡ Read (Delete 63 7) 2
-unfolding plan stepAt decoded areDigits
+second : readingAt plan 1 ≡ Read (Delete 63 7) 2
+unfolding plan readingAt decoded areDigits
 second = refl
 
-third : stepAt plan 2 ≡ Read Malformed 3
-unfolding plan stepAt decoded
+third : readingAt plan 2 ≡ Read Malformed 3
+unfolding plan readingAt decoded
 third = refl
 
-at-the-end : stepAt plan 3 ≡ End
-unfolding plan stepAt
+at-the-end : readingAt plan 3 ≡ End
+unfolding plan readingAt
 at-the-end = refl

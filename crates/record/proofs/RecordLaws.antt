@@ -36,9 +36,14 @@ number-digits a b d = let x = digits a b d in (omega (arith, x), omega (arith, x
 
 -- ---- what is written is read
 
+-- with any letter, and with the two that a record may have
 pub decoded-encoded : (c u v : ℕ) → u < 100 → v < 100 → decoded (encoded c u v) ≡ byLetter c u v
 unfolding decoded
 decoded-encoded c u v hu hv = rw (digits-of u hu, digits-of v hv, number-of u, number-of v) refl
+
+pub read-back : (u v : ℕ) → u < 100 → v < 100
+    → (decoded (encoded insertLetter u v) ≡ Insert u v) × (decoded (encoded deleteLetter u v) ≡ Delete u v)
+read-back u v hu hv = (decoded-encoded insertLetter u v hu hv, decoded-encoded deleteLetter u v hu hv)
 
 -- the letters and the digits are bytes of the record
 pub encoded-injective : (c u v c′ u′ v′ : ℕ) → encoded c u v ≡ encoded c′ u′ v′ → (c ≡ c′) × (u ≡ u′) × (v ≡ v′)

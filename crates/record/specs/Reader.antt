@@ -5,8 +5,8 @@ use Prim.Native.Nat.{ℕ, suc, _*_}
 use lib.Dec.{leb}
 use lib.ListN.{length, take, drop}
 use Rattle.record.specs.declared.Record.{Record}
-use Rattle.record.specs.declared.reader.Step.{Step}
-use Rattle.record.specs.declared.reader.Step.the-variants.{Read, End}
+use Rattle.record.specs.declared.reader.Reading.{Reading}
+use Rattle.record.specs.declared.reader.Reading.the-variants.{Read, End}
 use Rattle.record.specs.Record.{decoded}
 
 -- the record k of a plan, from 0 up: what the 8 bytes from 8 × k on say
@@ -14,5 +14,5 @@ abbrev pub recordAt : List ℕ → ℕ → Record
 recordAt plan k = decoded (take 8 (drop (8 * k) plan))
 
 -- what a reader that has got to the record k gives: that record and the number of the next, if a byte is left
-unfoldable pub stepAt : List ℕ → ℕ → Step
-stepAt plan k = cond (leb (length plan) (8 * k)) End (Read (recordAt plan k) (suc k))
+unfoldable pub readingAt : List ℕ → ℕ → Reading
+readingAt plan k = cond (leb (length plan) (8 * k)) End (Read (recordAt plan k) (suc k))

@@ -1,6 +1,6 @@
 // The plan reader: one thing that carries a plan's bytes and the record that it has got to.
 ghost use mathlib.Core.Path.{_≡_};
-ghost use Rattle.record.specs.Reader.{stepAt};
+ghost use Rattle.record.specs.Reader.{readingAt};
 use crate::Record;
 use crate::decode;
 
@@ -10,7 +10,7 @@ pub struct PlanReader<'a> {
 }
 
 // What a reader gives.
-pub enum Step {
+pub enum Reading {
     // What the record says, and the number of the record after it.
     Read(Record, usize),
     // No byte is left.
@@ -18,17 +18,17 @@ pub enum Step {
 }
 
 // The record k of a plan, from 0 up: the work of `next`.
-fn step_at(plan: &[u8], k: usize) -> Step
-    ensures { λ r. ⌜ r ≡ stepAt (now (plan .entry)) k ⌝ }
+fn reading_at(plan: &[u8], k: usize) -> Reading
+    ensures { λ r. ⌜ r ≡ readingAt (now (plan .entry)) k ⌝ }
 {
     if plan.len() / 8 < k {
-        return Step::End;
+        return Reading::End;
     }
     let start = 8 * k;
     if start == plan.len() {
-        return Step::End;
+        return Reading::End;
     }
-    Step::Read(decode(&plan[start..]), k + 1)
+    Reading::Read(decode(&plan[start..]), k + 1)
 }
 
 // A reader of a plan that has got to the record k.
@@ -39,15 +39,15 @@ pub fn reader_at<'a>(plan: &'a [u8], k: usize) -> PlanReader<'a>
 }
 
 // The record that a reader has got to.
-pub fn next<'a>(reader: PlanReader<'a>) -> Step
-    ensures { λ r. ⌜ r ≡ stepAt (now (reader .entry .plan)) (reader .entry .«record») ⌝ }
+pub fn next<'a>(reader: PlanReader<'a>) -> Reading
+    ensures { λ r. ⌜ r ≡ readingAt (now (reader .entry .plan)) (reader .entry .«record») ⌝ }
 {
-    step_at(reader.plan, reader.record)
+    reading_at(reader.plan, reader.record)
 }
 
 // The record k of a plan, through a reader: what those who have a plan and no reader call.
-pub fn read_record(plan: &[u8], k: usize) -> Step
-    ensures { λ r. ⌜ r ≡ stepAt (now (plan .entry)) k ⌝ }
+pub fn read_record(plan: &[u8], k: usize) -> Reading
+    ensures { λ r. ⌜ r ≡ readingAt (now (plan .entry)) k ⌝ }
 {
     next(reader_at(plan, k))
 }

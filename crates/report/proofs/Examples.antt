@@ -1,9 +1,10 @@
 -- Numbers and lines, computed from the definitions. Assumes nothing.
 use mathlib.Core.Path.{_≡_, refl}
 use mathlib.Core.List.{[], _∷_}
+use Rattle.sums.specs.Gather.{gather}
 use Rattle.sheet.specs.Table.{firstTrue}
 use Rattle.record.specs.Record.{areDigits, decoded}
-use Rattle.plan.specs.Records.{firstRecords, numberOn, applied}
+use Rattle.plan.specs.Records.{numberOn, applied}
 use Rattle.plan.specs.Calls.{lengthNumber}
 use Rattle.report.specs.Lines.{digitsUpTo, decimal, pipesLine, refusedLine, countLine}
 use Rattle.report.specs.Listing.{listing}
@@ -48,5 +49,5 @@ short = refl
 -- a small letter: `record 1 refused 14`
 small : listing (108 ∷ 32 ∷ 48 ∷ 48 ∷ 32 ∷ 48 ∷ 49 ∷ 10 ∷ [])
     ≡ 114 ∷ 101 ∷ 99 ∷ 111 ∷ 114 ∷ 100 ∷ 32 ∷ 49 ∷ 32 ∷ 114 ∷ 101 ∷ 102 ∷ 117 ∷ 115 ∷ 101 ∷ 100 ∷ 32 ∷ 49 ∷ 52 ∷ 10 ∷ []
-unfolding listing lengthNumber firstTrue firstRecords applied numberOn decoded areDigits decimal digitsUpTo
+unfolding listing lengthNumber firstTrue gather applied numberOn decoded areDigits decimal digitsUpTo
 small = refl

@@ -4,12 +4,13 @@ use mathlib.Core.Path.{_≡_, sym, ap, ap₂, subst, _∙_}
 use mathlib.Core.Bool.{Bool, true, false, cond, not, _&&_, and-false}
 use mathlib.Core.Logic.{_⊎_, inl, inr}
 use mathlib.Core.List.{List, [], _∷_, _++_, append-assoc}
-use Prim.Native.Nat.{ℕ, _+_, _/_, _%_, _≤_, _<_}
+use Prim.Native.Nat.{ℕ, _+_, _*_, _/_, _%_, _≤_, _<_}
 use native.Mathlib.Omega.{arith}
 use borrow.Author.Tests.{eq-eqb, ne-eqb, lt-ltb, le-ltb}
 use lib.Dec.{ltb, eqb}
 use lib.ListN.{length, length-append}
-use Rattle.sums.proofs.GatherLaws.{gather-bound}
+use Rattle.sums.specs.Gather.{gather}
+use Rattle.sums.proofs.GatherLaws.{gather-rows, gather-bound}
 use Rattle.text.specs.Text.{twoDigits, Put}
 use Rattle.text.proofs.TextLaws.{put-none, put-length, put-more}
 use Rattle.sheet.specs.declared.answer.Answer.{Answer}
@@ -99,6 +100,12 @@ module _ (s : List ℕ) (i j : ℕ) where
       pub pair-put : (l : List ℕ) (p : ℕ) → Put out at (countLine i j c) l p → Put out at (pairLine s i j) l p
       pair-put l p u = subst (λ (y : List ℕ). Put out at y l p) (sym shown) u
 
+-- ---- all lines: of the 64 × 64 pairs, ascending, the one at k is k / 64 and k % 64
+
+pub lines-ascending : (s : List ℕ) → countLines s ≡ gather (mostVertices * mostVertices) (λ k. pairLine s (k / mostVertices) (k % mostVertices))
+unfolding countLines rowLines
+lines-ascending s = gather-rows mostVertices mostVertices (pairLine s) (omega arith)
+
 -- ---- how long the lines are
 
 pub pipes-le : (x : ℕ) → length (pipesLine x) ≤ 27
@@ -117,13 +124,13 @@ pair-le s i j = go (not (eqb i j) && ltb 0 (countAt mostVertices s i j))
     go true = omega (arith, decimal-le (countAt mostVertices s i j), length-append (decimal (countAt mostVertices s i j)) (10 ∷ []))
     go false = omega arith
 
-row-le : (s : List ℕ) (i : ℕ) → length (rowLines s i) ≤ 1728
+row-le : (s : List ℕ) (i : ℕ) → length (rowLines s i) ≤ mostVertices * 27
 unfolding rowLines
 row-le s i = gather-bound mostVertices (pairLine s i) 27 (λ j hj. pair-le s i j)
 
-pub rows-le : (s : List ℕ) → length (countLines s) ≤ 110592
+pub rows-le : (s : List ℕ) → length (countLines s) ≤ mostVertices * (mostVertices * 27)
 unfolding countLines
-rows-le s = gather-bound mostVertices (rowLines s) 1728 (λ i hi. row-le s i)
+rows-le s = gather-bound mostVertices (rowLines s) (mostVertices * 27) (λ i hi. row-le s i)
 
 -- ---- what is printed of a plan that is answered with r and has left s
 

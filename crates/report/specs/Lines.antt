@@ -1,7 +1,7 @@
 -- The lines of a listing (document 01: the listing program), as bytes in ASCII. Definitions only. Assumes nothing.
 use mathlib.Core.Bool.{cond, not, _&&_}
 use mathlib.Core.List.{List, [], _∷_, _++_}
-use Prim.Native.Nat.{ℕ, zero, suc, _+_, _/_, _%_}
+use Prim.Native.Nat.{ℕ, zero, suc, _+_, _*_, _/_, _%_}
 use lib.Dec.{ltb, eqb}
 use Rattle.sums.specs.Gather.{gather}
 use Rattle.text.specs.Text.{twoDigits}
@@ -57,4 +57,4 @@ printed r s = decided (r .number) (pipesLine (r .value) ++ countLines s) (refuse
 
 -- the bytes in which all that is printed fits: 27 for the first line and for each of 64 × 64 others
 abbrev pub mostListed : ℕ
-mostListed = 110619
+mostListed = 27 + mostVertices * (mostVertices * 27)

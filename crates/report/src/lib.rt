@@ -1,8 +1,8 @@
-// The listing of a plan, as text in a buffer that always suffices. The call of this file answers all bytes.
+// The listing of a plan, as text in a buffer that always suffices, for all bytes; and a buffer for the input.
 ghost use mathlib.Core.Path.{_≡_};
-ghost use lib.ListN.{length};
+ghost use lib.ListN.{length, replicate};
 ghost use Rattle.text.specs.Text.{written};
-ghost use Rattle.report.specs.Listing.{listing};
+ghost use Rattle.report.specs.Listing.{listing, inputBytes};
 use sheet::Sheet;
 
 mod lines;
@@ -13,9 +13,17 @@ pub struct Listing {}
 
 impl Listing {
     // The bytes of a buffer in which every listing fits: 27 for the first line and for each of 64 × 64 others.
-    pub const BYTES: usize = 110619;
-    // What a program has to read of its input: one byte more than the longest plan, since a longer input is refused by its length, whatever follows.
+    pub const BYTES: usize = 27 + Sheet::VERTICES * Sheet::VERTICES * 27;
+    // What a program has to read of its input: one byte more than the longest plan, since a longer input is refused by its
+    // length, whatever follows.
     pub const INPUT: usize = 32769;
+}
+
+// A buffer for what a program has to read of its input.
+pub fn input_buffer() -> [u8; Listing::INPUT]
+    ensures { λ r. ⌜ r ≡ replicate inputBytes 0 ⌝ }
+{
+    [0; Listing::INPUT]
 }
 
 // The listing of a plan, read into the empty sheet of 64 vertices, in the first places of `out`: how many bytes it has.

@@ -1,7 +1,8 @@
--- The laws of lists put one after the other: one more, how long they are, and which of them are the same. Assumes nothing.
-use mathlib.Core.Path.{_≡_, refl, ap, ap₂, _∙_}
-use mathlib.Core.List.{List, [], _++_}
-use Prim.Native.Nat.{ℕ, zero, suc, _+_, _*_, _≤_, _<_}
+-- The laws of lists put one after the other: one more, how long they are, which of them are the same, and lists in rows. Assumes nothing.
+use mathlib.Core.Path.{_≡_, refl, sym, ap, ap₂, _∙_}
+use mathlib.Core.List.{List, [], _++_, append-nil, append-assoc}
+use Prim.Native.Nat.{ℕ, zero, suc, _+_, _*_, _/_, _%_, _≤_, _<_}
+use native.Mathlib.Nat.{mul-add-div-right, mul-add-mod-self-right, div-eq-of-lt, mod-eq-of-lt}
 use native.Mathlib.Omega.{arith}
 use lib.ListN.{length, length-append}
 use Rattle.sums.specs.Sum.{sum}
@@ -21,6 +22,35 @@ module _ {A : Type 0} where
   unfolding gather
   gather-cong zero f g h = refl
   gather-cong (suc n) f g h = ap₂ _++_ (gather-cong n f g (λ i hi. h i (omega arith))) (h n (omega arith))
+
+  -- ---- the first of them, and rows
+
+  pub gather-first : (n : ℕ) (f : ℕ → List A) → gather (suc n) f ≡ f 0 ++ gather n (λ i. f (suc i))
+  unfolding gather
+  gather-first zero f = sym (append-nil (f 0))
+  gather-first (suc n) f = ap (λ (l : List A). l ++ f (suc n)) (gather-first n f) ∙ append-assoc (f 0) (gather n (λ i. f (suc i))) (f (suc n))
+
+  gather-add : (m k : ℕ) (f : ℕ → List A) → gather (m + k) f ≡ gather m f ++ gather k (λ i. f (m + i))
+  unfolding gather
+  gather-add m zero f = let e : m + 0 ≡ m = omega arith in ap (λ (x : ℕ). gather x f) e ∙ sym (append-nil (gather m f))
+  gather-add m (suc k) f =
+      let e : m + suc k ≡ suc (m + k) = omega arith in
+      ap (λ (x : ℕ). gather x f) e
+      ∙ (ap (λ (l : List A). l ++ f (m + k)) (gather-add m k f) ∙ append-assoc (gather m f) (gather k (λ i. f (m + i))) (f (m + k)))
+
+  -- n rows of m are n × m, of which the one at k stands in the row k / m at the place k % m
+  pub gather-rows : (n m : ℕ) (f : ℕ → ℕ → List A) → 0 < m → gather n (λ i. gather m (f i)) ≡ gather (n * m) (λ k. f (k / m) (k % m))
+  unfolding gather
+  gather-rows zero m f h = let e : 0 ≡ zero * m = omega arith in ap (λ (x : ℕ). gather x (λ k. f (k / m) (k % m))) e
+  gather-rows (suc n) m f h =
+      let e : n * m + m ≡ suc n * m = omega arith in
+      let row : (i : ℕ) → i < m → f n i ≡ f ((n * m + i) / m) ((n * m + i) % m)
+      = λ i hi.
+      ap₂ f
+      (omega (arith, mul-add-div-right h n i, div-eq-of-lt hi))
+      (sym (mul-add-mod-self-right n m i ∙ mod-eq-of-lt hi)) in
+      ap₂ _++_ (gather-rows n m f h) (gather-cong m (f n) (λ i. f ((n * m + i) / m) ((n * m + i) % m)) row)
+      ∙ (sym (gather-add (n * m) m (λ k. f (k / m) (k % m))) ∙ ap (λ (x : ℕ). gather x (λ k. f (k / m) (k % m))) e)
 
   -- ---- how long
 

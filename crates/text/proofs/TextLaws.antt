@@ -12,14 +12,14 @@ use Rattle.text.specs.Text.{pasted, Put, written}
 
 -- ---- `put`: k bytes of b are copied to l
 
-pub pasted-paste : (buffer : List ℕ) (at : ℕ) (b : List ℕ) → pasted buffer at b ≡ paste buffer at b (length b)
+pasted-paste : (buffer : List ℕ) (at : ℕ) (b : List ℕ) → pasted buffer at b ≡ paste buffer at b (length b)
 pasted-paste buffer at b = ap (λ (x : List ℕ). take at buffer ++ (x ++ drop (at + length b) buffer)) (sym (take-length b)) ∙ sym (append-assoc (take at buffer) _ _)
 
 module _ (buffer : List ℕ) (at : ℕ) (b l : List ℕ) (k : ℕ) (e : l ≡ paste buffer at b k) where
-  pub paste-more : k < length b → at + length b ≤ length buffer → set l (at + k) (getD b k 0) ≡ paste buffer at b (k + 1)
+  pub paste-more : k < length b → at + k < length buffer → set l (at + k) (getD b k 0) ≡ paste buffer at b (k + 1)
   paste-more h w =
       let one : suc k ≡ k + 1 = omega arith in
-      ap (λ (x : List ℕ). set x (at + k) (getD b k 0)) e ∙ (paste-suc buffer at b k 0 (omega arith) h ∙ ap (paste buffer at b) one)
+      ap (λ (x : List ℕ). set x (at + k) (getD b k 0)) e ∙ (paste-suc buffer at b k 0 w h ∙ ap (paste buffer at b) one)
 
   pub paste-done : k ≡ length b → Put buffer at b l (at + k)
   paste-done d = record { place = ap (λ (x : ℕ). at + x) d; bytes = e ∙ (ap (paste buffer at b) d ∙ sym (pasted-paste buffer at b)) }
@@ -28,8 +28,7 @@ module _ (buffer : List ℕ) (at : ℕ) (b l : List ℕ) (k : ℕ) (e : l ≡ pa
 pub front-more : (buffer b l : List ℕ) (k : ℕ) → l ≡ paste buffer 0 b k → k < length b → k < length buffer → set l k (getD b k 0) ≡ paste buffer 0 b (k + 1)
 front-more buffer b l k e h w =
     let z : k ≡ 0 + k = omega arith in
-    let one : suc k ≡ k + 1 = omega arith in
-    ap₂ (λ (x : List ℕ) (y : ℕ). set x y (getD b k 0)) e z ∙ (paste-suc buffer 0 b k 0 (omega arith) h ∙ ap (paste buffer 0 b) one)
+    ap (λ (y : ℕ). set l y (getD b k 0)) z ∙ paste-more buffer 0 b l k e h (omega arith)
 
 -- ---- bytes put one after the other
 

@@ -1,4 +1,5 @@
--- `listing::main` is safe and ends: the listing is within the buffer. Assumes nothing.
+-- `listing::main` is safe and ends: the listing is within the buffer. What the C library's `read` and `write` do is the kit's
+-- assumption; nothing else is assumed.
 use borrow.Author.Needs.{needs}
 use Rattle.text.proofs.TextLaws.{written-within, written-front}
 use Rattle.listing.proofs.main.Statement.{statement}
@@ -6,6 +7,9 @@ use Rattle.listing.proofs.main.Tie as tie
 
 returns : tie.Need-returns
 returns c = search needs
+
+input-buffer-requires : tie.Need-input-buffer-requires
+input-buffer-requires c κs = search needs
 
 slice-aggregate-read-full : tie.Need-slice-aggregate-read-full
 slice-aggregate-read-full c = search needs
@@ -35,6 +39,7 @@ pub main-spec : {M : Type 1} → statement M
 main-spec =
     tie.close
     (tie.spec
+    input-buffer-requires
     slice-aggregate-read-full
     read-full-requires
     array-share-prefix-input

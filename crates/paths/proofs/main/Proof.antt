@@ -1,4 +1,5 @@
--- `paths::main` is safe and ends. The measure is how many numbers are left. Assumes nothing.
+-- `paths::main` is safe and ends. The measure is how many numbers are left. What the C library's `read` and `write` do is the kit's
+-- assumption; nothing else is assumed.
 use Prim.Native.Nat.{_-_, _^_}
 use borrow.Author.Needs.{needs}
 use Rattle.paths.proofs.main.Statement.{statement}

@@ -1,6 +1,7 @@
--- `record::reader::read_record` meets its contract: a walk of its MIR, by hand. The reader that `reader_at` makes is held in a local and passed to
--- `next`: all that is known of the two is that each meets its contract. In a local of a body the lifetime of the struct's type is erased, so
--- the machine value is shown to have the type at `erased`: what the struct owns does not say the lifetime's name. Assumes nothing.
+-- `record::reader::read_record` meets its contract: a walk of its statements, by hand. The reader that `reader_at` makes is held in a local
+-- and passed to `next`: all that is known of the two is that each meets its contract. In a local of a body the lifetime of the struct's
+-- type is erased, so the machine value is shown to have the type at `erased`: what the struct owns does not say the lifetime's name.
+-- Assumes nothing.
 use mathlib.Core.Path.{_≡_, refl, ap, _∙_}
 use Prim.Native.Nat.{ℕ, _<_, _^_}
 use mathlib.Core.List.{List, [], _∷_}
@@ -39,13 +40,13 @@ use denote.Triple.Table.{entered, cited}
 use denote.Triple.Walked.{says, Stays, stay-none, stay-none-slice, walkOf, goes-none, goes-none-slice, Walks, ends-at, walked, walk-meets}
 use denote.Exit.{yes}
 use denote.Triple.Clauses.{ensured, lasts}
-use Rattle.record.specs.Reader.{stepAt}
+use Rattle.record.specs.Reader.{readingAt}
 use Rattle.record.specs.declared.reader.PlanReader.{PlanReader}
-use Rattle.record.specs.declared.reader.Step.{Step}
+use Rattle.record.specs.declared.reader.Reading.{Reading}
 use Rattle.record.proofs.reader.PlanReader as T
 use Rattle.record.proofs.reader.PlanReader.Laws as T′
-use Rattle.record.proofs.reader.Step as S
-use Rattle.record.proofs.reader.Step.Laws as S′
+use Rattle.record.proofs.reader.Reading as S
+use Rattle.record.proofs.reader.Reading.Laws as S′
 use Rattle.record.proofs.reader.reader_at as reader-at
 use Rattle.record.proofs.reader.reader_at.Symbol as reader-at-def
 use Rattle.record.proofs.reader.reader_at.Symbol.{name as #reader-at}
@@ -79,8 +80,8 @@ module _ {M : Type 1} (𝓤 : URA M) (H : Heap 𝓤) (A : Atoms 𝓤) (mem : Mem
     abbrev v : Val
     v = sliceVal (s .ptr) (length (s .now))
 
-    abbrev found : Step
-    found = stepAt (now s) k
+    abbrev found : Reading
+    found = readingAt (now s) k
 
     abbrev at : Vals read-record.signature (κ, tt)
     at = (v ∷ [], (vint w64 k ∷ [], tt))
@@ -129,19 +130,19 @@ module _ {M : Type 1} (𝓤 : URA M) (H : Heap 𝓤) (A : Atoms 𝓤) (mem : Mem
         qed W (‵ (B (κ, tt) .own r (u ∷ [])) ∷ (‵ (flft κ q) ⊛ ‵ ftrue) ∷ []) ∵
         nothing ! $ move ! (1 ∷ 0 ∷ []) $ fjoin ! $ move ! (1 ∷ 0 ∷ []) $ join ! $ frame ! $ done !
 
-    abbrev Gave : PlanReader → Step → Type 0
-    Gave r t = t ≡ stepAt (now (r .plan)) (r .«record»)
+    abbrev Gave : PlanReader → Reading → Type 0
+    Gave r t = t ≡ readingAt (now (r .plan)) (r .«record»)
 
-    abbrev EnsuredNext : PlanReader → Step → SProp 𝓤
+    abbrev EnsuredNext : PlanReader → Reading → SProp 𝓤
     EnsuredNext r t = ensured 𝓤 H A next.ended (next.clauses 𝓤 H A mem run) (κ, tt) (r, tt) tt t
 
-    next-said : (r : PlanReader) (t : Step) → ent 𝓤 (EnsuredNext r t) (fact 𝓤 (Gave r t))
+    next-said : (r : PlanReader) (t : Reading) → ent 𝓤 (EnsuredNext r t) (fact 𝓤 (Gave r t))
     next-said r t = exE 𝓤 _ (λ ws. snd∗ 𝓤 (sem 𝓤 H A (lasts next.ended (κ, tt) (r, tt) ws)) (fact 𝓤 (Gave r t)))
 
-    gave-found : (r : PlanReader) (t : Step) → Made r → Gave r t → t ≡ found
-    gave-found r t e e′ = e′ ∙ (ap (λ (x : RefT (List ℕ)). stepAt (now x) (r .«record»)) (e .0) ∙ ap (stepAt (now s)) (e .1))
+    gave-found : (r : PlanReader) (t : Reading) → Made r → Gave r t → t ≡ found
+    gave-found r t e e′ = e′ ∙ (ap (λ (x : RefT (List ℕ)). readingAt (now x) (r .«record»)) (e .0) ∙ ap (readingAt (now s)) (e .1))
 
-    exits : (t : Step) (u : Val) → t ≡ found → ent 𝓤 (⋆ 𝓤 H A (‵ (S.the-row .own t (u ∷ [])) ∷ (‵ (flft κ q) ⊛ ‵ ftrue) ∷ ‵ Own ∷ [])) (Post u)
+    exits : (t : Reading) (u : Val) → t ≡ found → ent 𝓤 (⋆ 𝓤 H A (‵ (S.the-row .own t (u ∷ [])) ∷ (‵ (flft κ q) ⊛ ‵ ftrue) ∷ ‵ Own ∷ [])) (Post u)
     exits t u e =
         qed W (‵ (S.the-row .own t (u ∷ [])) ∷ (‵ (flft κ q) ⊛ ‵ ftrue) ∷ ‵ Own ∷ []) ∵
         suffices ! _
@@ -168,7 +169,7 @@ module _ {M : Type 1} (𝓤 : URA M) (H : Heap 𝓤) (A : Atoms 𝓤) (mem : Mem
         land ! (from ! (stop !)) (init ! 3 refl (LL.lawful (T.the-type αᵉ) (T′.the-laws αᵉ) 𝓤 H A W .typed r _ is .0)) $
         use2 W (raw (Next .pre (to-next r u))) (goes-next r u) $
         calls-at ! fm Next known-next (to-next r u) (and-then ! (load ! (from ! (stop !)) (look ! 2 refl)) (no-more !)) (λ u′.
-        use1 W (later (some (λ (t : Step). ((‵ (flft κ q) ⊛ ‵ ftrue) ⊛ ‵ (S.the-row .own t (u′ ∷ []))) ⊛ raw (EnsuredNext r t)))) (id⊢ 𝓤 _) $
+        use1 W (later (some (λ (t : Reading). ((‵ (flft κ q) ⊛ ‵ ftrue) ⊛ ‵ (S.the-row .own t (u′ ∷ []))) ⊛ raw (EnsuredNext r t)))) (id⊢ 𝓤 _) $
         await ! tt $ pick ! (λ t. split ! $ move ! (1 ∷ []) $
         use1 W (raw (fact 𝓤 (Gave r t))) (next-said r t) $ heard ! (Gave r t) (λ e′. split ! $ move ! (1 ∷ []) $
         -- [the result; the token; what the plan owns; _3; …; _2; …; _1; …; room for _0; …]

@@ -1,6 +1,6 @@
--- `record::reader::reader_at` meets its contract: a walk of its MIR, by hand. A reader is made of the plan and the number passed, in the
--- result's local. A `&[u8]` is Copy, so what it owns is had twice: once for the plan at exit, and once inside the result.
--- Assumes nothing.
+-- `record::reader::reader_at` meets its contract: a walk of its statements, by hand. A reader is made of the plan and the number passed,
+-- in the result's local. A `&[u8]` is Copy, so what it owns is had twice: once for the plan at exit, and once inside the result. Assumes
+-- nothing.
 use mathlib.Core.Path.{refl}
 use Prim.Native.Nat.{ℕ, _<_, _^_}
 use mathlib.Core.List.{List, [], _∷_}

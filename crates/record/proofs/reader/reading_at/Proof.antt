@@ -1,17 +1,17 @@
--- `record::reader::step_at` meets its contract: each way out is a law of ReaderLaws. Assumes nothing.
+-- `record::reader::reading_at` meets its contract: each way out is a law of ReaderLaws. Assumes nothing.
 use borrow.Author.Needs.{needs}
-use Rattle.record.proofs.ReaderLaws.{step-past, step-at-end, step-next}
-use Rattle.record.proofs.reader.step_at.Statement.{statement}
-use Rattle.record.proofs.reader.step_at.Tie as tie
+use Rattle.record.proofs.ReaderLaws.{reading-past, reading-at-end, reading-next}
+use Rattle.record.proofs.reader.reading_at.Statement.{statement}
+use Rattle.record.proofs.reader.reading_at.Tie as tie
 
 returns : tie.Need-returns
-returns c = search step-past
+returns c = search reading-past
 
 returns-2 : tie.Need-returns-2
-returns-2 c = search step-at-end
+returns-2 c = search reading-at-end
 
 returns-3 : tie.Need-returns-3
-returns-3 c = search step-next
+returns-3 c = search reading-next
 
 mul-start : tie.Need-mul-start
 mul-start c = search needs
@@ -31,8 +31,8 @@ decode-requires c κs = search needs
 add-t4 : tie.Need-add-t4
 add-t4 c = search needs
 
-pub step-at-spec : {M : Type 1} → statement M
-step-at-spec =
+pub reading-at-spec : {M : Type 1} → statement M
+reading-at-spec =
     tie.close
     (tie.spec
     returns
