@@ -23,12 +23,12 @@ use Rattle.sheet.proofs.TableLaws.{reflects-true, reflects-iff, reflects-not, r
 use Rattle.sheet.proofs.ShapeLaws.{sized-stops, sized-passes}
 use Rattle.sheet.proofs.StrayLaws.{stray-iff}
 use Rattle.sheet.proofs.RowLaws.{base-count}
-use Rattle.edit.specs.Edit.{at, oneIf}
-use Rattle.edit.specs.Table.{SomeEdge, argued, effects}
-use Rattle.edit.specs.Outcome.{arguedTests, effectTests}
-use Rattle.edit.specs.Internal.{argumentNumber, effectNumber, SomeOf, Clashes, Meets}
-use Rattle.edit.proofs.TestLaws.{closes-reflects, named-of, named-into, named-out}
-use Rattle.edit.proofs.ConditionLaws.{argued-agree, effects-agree}
+use Rattle.edit_theory.specs.Edit.{at, oneIf}
+use Rattle.edit_theory.specs.Table.{SomeEdge, argued, effects, SomeOf}
+use Rattle.edit_theory.specs.Outcome.{arguedTests, effectTests}
+use Rattle.edit.specs.Internal.{argumentNumber, effectNumber, Clashes, Meets}
+use Rattle.edit_theory.proofs.TestLaws.{closes-reflects, named-of, named-into, named-out}
+use Rattle.edit_theory.proofs.ConditionLaws.{argued-agree, effects-agree}
 
 -- ---- masks_number: k is what the check of the shape gave
 

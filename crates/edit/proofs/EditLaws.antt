@@ -17,11 +17,11 @@ use Rattle.sheet.proofs.TableLaws.{first-true, Refusing, first-stops, first-pas
 use Rattle.sheet.proofs.AnswerLaws.{answered-refused, answered-accepted, decided-refused, decided-accepted}
 use Rattle.sheet.proofs.ShapeLaws.{sized-agree, accepted-shape, vertices-below}
 use Rattle.sheet.proofs.LayoutLaws.{length-redone, row-redone, count-redone, rest-redone, redone-ext}
-use Rattle.edit.specs.Edit.{Edges, one, at, Edit, vertexOf, predecessorsOf, successorsOf, edgeEdit}
-use Rattle.edit.specs.Table.{argued}
-use Rattle.edit.specs.Outcome.{arguedTests, effectTests, editedRow, edited, editNumber, editWords, editAnswer, editAfter}
+use Rattle.edit_theory.specs.Edit.{Edges, one, at, Edit, vertexOf, predecessorsOf, successorsOf, edgeEdit}
+use Rattle.edit_theory.specs.Table.{argued}
+use Rattle.edit_theory.specs.Outcome.{arguedTests, effectTests, editedRow, edited, editNumber, editWords, editAnswer, editAfter}
 use Rattle.edit.specs.Internal.{Ready, argumentNumber, effectNumber, effectAnswer, effectAfter, countsEdited, rowsEdited}
-use Rattle.edit.proofs.ConditionLaws.{argued-agree, argued-past}
+use Rattle.edit_theory.proofs.ConditionLaws.{argued-agree, argued-past}
 
 -- ---- the counts and then the rows
 

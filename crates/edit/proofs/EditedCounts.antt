@@ -22,7 +22,7 @@ use Rattle.sheet.specs.Internal.{RowBase}
 use Rattle.sheet.proofs.FillLaws.{length-puts, puts-more, over-in, over-out, over-same}
 use Rattle.sheet.proofs.RowLaws.{base-count}
 use Rattle.sheet.proofs.LayoutLaws.{row-within, place-apart, redone-ext}
-use Rattle.edit.specs.Outcome.{editedCount}
+use Rattle.edit_theory.specs.Outcome.{editedCount}
 use Rattle.edit.specs.Internal.{Ready, signed, withProducts, rowEdited, countsEdited}
 use Rattle.edit.proofs.FactorLaws.{Factors, signed-zero, edited-by}
 

@@ -18,7 +18,7 @@ use Rattle.word.proofs.WrapLaws.{minus-add, minus-congruent}
 use Rattle.graph.specs.Update.{toSum}
 use Rattle.sheet.specs.Layout.{countAt}
 use Rattle.sheet.specs.Internal.{RowBase, RowsSummed}
-use Rattle.edit.specs.Outcome.{editedBy}
+use Rattle.edit_theory.specs.Outcome.{editedBy}
 use Rattle.edit.specs.Internal.{signed, SignedSum}
 
 -- ---- a sign

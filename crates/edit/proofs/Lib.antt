@@ -1,12 +1,3 @@
-pub mod Examples
-pub mod Refusals
-pub mod OneEdit
-pub mod EmptyMasks
-pub mod TestLaws
-pub mod NamedLaws
-pub mod ConditionLaws
-pub mod FreshLaws
-pub mod StepLaws
 pub mod SearchLaws
 pub mod CheckLaws
 pub mod FactorLaws

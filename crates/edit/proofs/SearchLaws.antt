@@ -10,7 +10,7 @@ use Rattle.word.specs.Bit.{bit, withoutBit, Lowest}
 use Rattle.word.proofs.BitLaws.{bit-zero, bit-clear-other, clear-below}
 use Rattle.sheet.specs.Table.{Reflects}
 use Rattle.sheet.proofs.TableLaws.{reflects-true, reflects-none}
-use Rattle.edit.specs.Internal.{SomeOf}
+use Rattle.edit_theory.specs.Table.{SomeOf}
 
 -- rest has bits of the mask, and no vertex of the mask that it has no more is a P
 pub record Searching (n mask rest : ℕ) (P : ℕ → Type 0) : Type 0 where

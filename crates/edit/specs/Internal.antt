@@ -14,8 +14,9 @@ use Rattle.sheet.specs.Answers.{decided, answered}
 use Rattle.sheet.specs.Layout.{Shape, rowAt, countsFrom, countAt, setBits, redone}
 use Rattle.sheet.specs.Conditions.{sizedTests}
 use Rattle.sheet.specs.Fill.{over}
-use Rattle.edit.specs.Edit.{Edges, oneIf, marked}
-use Rattle.edit.specs.Outcome.{arguedTests, effectTests, editedRow, editedCount, edited}
+use Rattle.edit_theory.specs.Edit.{Edges, oneIf, marked}
+use Rattle.edit_theory.specs.Table.{SomeOf}
+use Rattle.edit_theory.specs.Outcome.{arguedTests, effectTests, editedRow, editedCount, edited}
 
 -- the arguments of an edit at v by the masks a and b are in order
 pub record Ready (n : ℕ) (s : List ℕ) (v a b : ℕ) : Type 0 where
@@ -41,10 +42,6 @@ abbrev pub effectAfter : Bool → ℕ → List ℕ → ℕ → ℕ → ℕ → L
 effectAfter inserts n s v a b = decided (effectNumber inserts n s v a b) (edited inserts n s v a b) s
 
 -- ---- checks
-
--- of the vertices of the mask, one is a P
-abbrev pub SomeOf : ℕ → ℕ → (ℕ → Type 0) → Type 0
-SomeOf n mask P = (k : ℕ) × (k < n) × (bit mask k ≡ 1) × P k
 
 -- the bits of r are those of the row at which an edge would be refused: set where an insertion finds an edge and a deletion none
 abbrev pub Clashes : Bool → ℕ → ℕ → Type 0

@@ -1,6 +1,1 @@
-pub mod Edit
-pub mod Table
-pub mod Outcome
-pub mod Model
-pub mod Change
 pub mod Internal

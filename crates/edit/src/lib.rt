@@ -1,8 +1,9 @@
 // The four edits of a sheet: one edge, or the edges at one vertex by two masks, inserted or deleted. They answer every n, every length,
-// all words and all other arguments. A refusal changes no word, and the value is the number of set bits in all rows afterwards.
+// all words and all other arguments. A refusal changes no word and has the value 0; an accepted edit's value is the number of set bits in all
+// rows afterwards.
 ghost use mathlib.Core.Path.{_≡_};
-ghost use Rattle.edit.specs.Edit.{edgeEdit, edgesEdit, insertEdge, deleteEdge, insertEdgesAt, deleteEdgesAt};
-ghost use Rattle.edit.specs.Outcome.{editAnswer, editAfter};
+ghost use Rattle.edit_theory.specs.Edit.{edgeEdit, edgesEdit, insertEdge, deleteEdge, insertEdgesAt, deleteEdgesAt};
+ghost use Rattle.edit_theory.specs.Outcome.{editAnswer, editAfter};
 ghost use Rattle.edit.specs.Internal.{Ready, effectAnswer, effectAfter};
 use sheet::Answer;
 

@@ -46,7 +46,7 @@ module _ (n : ℕ) (w : ℕ → ℕ → ℕ) where
   abbrev by : ℕ → ℕ → List (List ℕ) → List (List ℕ)
   by i b s = when (decLt 0 (w i b)) (each i s)
 
-  walkList : ℕ → ℕ → ℕ → List (List ℕ)
+  unfoldable pub walkList : ℕ → ℕ → ℕ → List (List ℕ)
   walkList zero i j = []
   walkList (suc k) i j = alone i j ++ gather n (λ b. by i b (walkList k b j))
 
@@ -103,14 +103,14 @@ module _ (n : ℕ) (w : ℕ → ℕ → ℕ) where
       (r .0, y .1 ∙ ap (λ t. i ∷ t) (r .1))
 
   -- no walk is listed twice: those of i alone have no second vertex, and the others differ in it or after it
-  walkList-distinct : (k i j : ℕ) → Distinct (walkList k i j)
+  pub walkList-distinct : (k i j : ℕ) → Distinct (walkList k i j)
   unfolding walkList
   walkList-distinct zero i j = tt
   walkList-distinct (suc k) i j =
       append-distinct (alone i j) (gather n (next k i j))
       (when-distinct (ℕ-discrete i j) ((i ∷ []) ∷ []) ((λ m. m), tt))
       (gather-distinct n (next k i j) (λ b p. when-distinct (decLt 0 (w i b)) (each i (walkList k b j)) (each-distinct i (walkList k b j) (walkList-distinct k b j)))
-      (λ b c x p q. cc (next-second k i j b x p .1, next-second k i j c x q .1)))
+      (λ b c x hb hc p q. cc (next-second k i j b x p .1, next-second k i j c x q .1)))
       (λ x p q.
       let g = gather-of n (next k i j) x q in
       let z : _≡_ {A = ℕ} 0 1 = cc (alone-of i j x p .0, next-second k i j (g .0) x (g .2) .1) in
@@ -147,13 +147,17 @@ module _ (n : ℕ) (w : ℕ → ℕ → ℕ) where
     many = refl;
   }
 
+  -- the paths are the walks that are listed
+  pub path-listed-iff : Acyclic n w → (i j : ℕ) → i < n → (x : List ℕ) → IsPath n w i j x ↔ (x isIn walkList n i j)
+  path-listed-iff a i j h x = (path-in a i j x, λ m. let r = walkList-of n i j x m in rw (r .1) (walk-path a i (r .0) j h (r .2)))
+
   -- COUNTING: there are exactly `pathCount i j` paths from i to j
   pub pathCount-exact : Acyclic n w → ((i j : ℕ) → i < n → j < n → w i j ≤ 1) → (i j : ℕ) → i < n → Exactly (IsPath n w i j) (pathCount n w i j)
   unfolding pathCount
   pathCount-exact a one i j h = record {
     list = walkList n i j;
     once = walkList-distinct n i j;
-    all = path-in a i j;
-    only = λ x m. let r = walkList-of n i j x m in rw (r .1) (walk-path a i (r .0) j h (r .2));
+    all = λ x. path-listed-iff a i j h x .0;
+    only = λ x. path-listed-iff a i j h x .1;
     many = walkList-length one n i j h;
   }

@@ -11,7 +11,8 @@ use Rattle.graph.specs.Graph.{Edge, Cycle, Acyclic}
 use Rattle.graph.specs.Count.{pathCount}
 use Rattle.graph.specs.Update.{inserted, fromSum, toSum, updated, Closes, into, out, through}
 use Rattle.graph.proofs.Walks.{Reach, reach-refl, reach-step, reach-trans, cycle-of, walk-widen, cycle-widen}
-use Rattle.graph.proofs.Recurrence.{mul-pos-both, some-product, pathCount-recurrence, Recurrence, recurrence-only, recurrence-cycle}
+use Rattle.graph.specs.Recurrence.{Recurrence}
+use Rattle.graph.proofs.Recurrence.{mul-pos-both, some-product, pathCount-recurrence, recurrence-only, recurrence-cycle}
 use Rattle.graph.proofs.Recurrence.{reach-pathCount, pathCount-reach, pathCount-self}
 use Rattle.graph.proofs.Insertion.{from-cong, to-cong, Open, updated-recurrence, updated-back}
 

@@ -7,7 +7,7 @@ use native.Mathlib.Omega.{arith}
 use Rattle.sums.specs.Sum.{sum, delta}
 use Rattle.sums.proofs.SumLaws.{delta-comm, sum-cong, sum-pick, sum-pick-right, mul-sum, sum-mul-add, sum-add-mul, sum-mul-right, sum-exchange}
 use Rattle.graph.specs.Update.{inserted, fromSum, toSum, updated}
-use Rattle.graph.proofs.Recurrence.{Recurrence}
+use Rattle.graph.specs.Recurrence.{Recurrence}
 
 -- two tables that agree in a row, or in a column, give the same sum there
 module _ (n : ℕ) (C D : ℕ → ℕ → ℕ) where

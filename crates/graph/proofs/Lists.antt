@@ -63,12 +63,12 @@ module _ {A : Type 0} where
         | inr p ↦ (n, omega arith, p)
       ]
 
-  pub gather-distinct : (n : ℕ) (f : ℕ → List A) → ((b : ℕ) → b < n → Distinct (f b)) → ((b c : ℕ) (x : A) → x isIn f b → x isIn f c → b ≡ c) → Distinct (gather n f)
+  pub gather-distinct : (n : ℕ) (f : ℕ → List A) → ((b : ℕ) → b < n → Distinct (f b)) → ((b c : ℕ) (x : A) → b < n → c < n → x isIn f b → x isIn f c → b ≡ c) → Distinct (gather n f)
   unfolding gather
   gather-distinct zero f h g = tt
   gather-distinct (suc n) f h g =
-      append-distinct (gather n f) (f n) (gather-distinct n f (λ b p. h b (omega arith)) g) (h n (omega arith))
-      (λ x p q. let r = gather-of n f x p in omega (arith, r .1, g (r .0) n x (r .2) q))
+      append-distinct (gather n f) (f n) (gather-distinct n f (λ b p. h b (omega arith)) (λ b c x p q. g b c x (omega arith) (omega arith))) (h n (omega arith))
+      (λ x p q. let r = gather-of n f x p in omega (arith, r .1, g (r .0) n x (omega (arith, r .1)) (omega arith) (r .2) q))
 
   -- ---- a list where P holds, and nothing where it does not
 
@@ -224,26 +224,17 @@ module _ {A : Type 0} where
     many = length-append (p .list) (q .list) ∙ ap₂ (λ x y. x + y) (p .many) (q .many);
   }
 
-  -- what f gives of different numbers differs, where g gives the numbers back
-  numbered-distinct : (k : ℕ) (f : ℕ → A) (g : A → ℕ) → ((m : ℕ) → m < k → g (f m) ≡ m) → Distinct (gather k (λ m. f m ∷ []))
-  unfolding gather
-  numbered-distinct zero f g b = tt
-  numbered-distinct (suc k) f g b =
-      append-distinct (gather k (λ m. f m ∷ [])) (f k ∷ []) (numbered-distinct k f g (λ m h. b m (omega arith))) ((λ m. m), tt)
-      (λ x p q.
-      let r = gather-of k (λ m. f m ∷ []) x p in
-      elim (r .2) [
-        | inl e ↦ elim q [ inl d ↦ omega (arith, r .1, b (r .0) (omega (arith, r .1)), b k (omega arith), ap g (sym e ∙ d)) | inr d ↦ d ]
-        | inr e ↦ e
-      ])
+  in-one : (x y : A) → x isIn (y ∷ []) → x ≡ y
+  in-one x y m = elim m [ inl e ↦ e | inr e ↦ absurd e ]
 
   -- where f gives a P for each number below k, and g gives back each one's number, there are k of them
   pub exactly-below : {P : A → Type 0} (k : ℕ) (f : ℕ → A) (g : A → ℕ) → ((m : ℕ) → m < k → P (f m)) → ((m : ℕ) → m < k → g (f m) ≡ m)
       → ((x : A) → P x → (g x < k) × (f (g x) ≡ x)) → Exactly P k
   exactly-below {P} k f g h b s = record {
     list = gather k (λ m. f m ∷ []);
-    once = numbered-distinct k f g b;
+    once = gather-distinct k (λ m. f m ∷ []) (λ m h. (λ e. e, tt))
+        (λ m l x hm hl p q. sym (b m hm) ∙ ap g (sym (in-one x (f m) p) ∙ in-one x (f l) q) ∙ b l hl);
     all = λ x p. let r = s x p in gather-in k (λ m. f m ∷ []) x (g x) (r .0) (inl (sym (r .1)));
-    only = λ x p. let r = gather-of k (λ m. f m ∷ []) x p in elim (r .2) [ inl e ↦ subst P (sym e) (h (r .0) (r .1)) | inr e ↦ absurd e ];
+    only = λ x p. let r = gather-of k (λ m. f m ∷ []) x p in subst P (sym (in-one x _ (r .2))) (h (r .0) (r .1));
     many = gather-length k (λ m. f m ∷ []) ∙ sum-const k 1 ∙ mul-one k;
   }

@@ -3,21 +3,17 @@
 use mathlib.Core.Path.{_≡_}
 use Prim.Native.Nat.{ℕ, zero, suc, _<_}
 use native.Mathlib.Omega.{arith}
-use Rattle.graph.specs.Graph.{Edge, Cycle, Acyclic}
-use Rattle.graph.specs.Order.{Order}
+use Rattle.graph.specs.Graph.{Cycle, Acyclic}
+use Rattle.graph.specs.Order.{Stuck, Order}
 use Rattle.graph.proofs.Deep.{Deep, deep, deep-acyclic, cycle?}
 
 module _ (n : ℕ) (w : ℕ → ℕ → ℕ) where
-  -- from each vertex of L an edge leads to a vertex of L
-  abbrev pub Stuck : (ℕ → Type 0) → Type 0
-  Stuck L = (a : ℕ) → a < n → L a → (b : ℕ) × (b < n) × Edge n w a b × L b
-
-  stuck-not-deep : (L : ℕ → Type 0) → Stuck L → (k i : ℕ) → i < n → L i → Deep n w k i → ⊥
+  stuck-not-deep : (L : ℕ → Type 0) → Stuck n w L → (k i : ℕ) → i < n → L i → Deep n w k i → ⊥
   stuck-not-deep L s zero i h p d = d
   stuck-not-deep L s (suc k) i h p d = let r = s i h p in stuck-not-deep L s k (r .0) (r .1) (r .3) (d (r .0) (r .1) (r .2))
 
   -- were there no cycle, no walk would have more than n vertices; inside L a walk has as many as one likes
-  pub stuck-cycle : (L : ℕ → Type 0) (i : ℕ) → i < n → L i → Stuck L → Cycle n w
+  pub stuck-cycle : (L : ℕ → Type 0) (i : ℕ) → i < n → L i → Stuck n w L → Cycle n w
   stuck-cycle L i h p s = elim (cycle? n w) [ yes c ↦ c | no a ↦ absurd (stuck-not-deep L s n i h p (deep n w a i h)) ]
 
   -- a walk from v m goes down the order, so it has at most m + 1 vertices

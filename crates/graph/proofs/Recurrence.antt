@@ -12,6 +12,7 @@ use Rattle.sums.proofs.SumLaws.{delta-refl, delta-diff, sum-cong, sum-pick′, 
 use Rattle.sums.proofs.ModuloLaws.{congruent-zero, congruent-add, congruent-mul, congruent-sum}
 use Rattle.graph.specs.Count.{walks, pathCount}
 use Rattle.graph.specs.Graph.{Edge, Walk, Cycle, Acyclic}
+use Rattle.graph.specs.Recurrence.{Recurrence, Recurrence-mod, RecurrenceBack}
 use Rattle.graph.proofs.Walks.{Reach, reach-step, cycle-of}
 use Rattle.graph.proofs.Deep.{Deep, deep}
 
@@ -29,18 +30,6 @@ some-product n f g h =
     (r .0, r .1, p .0, p .1)
 
 module _ (n : ℕ) (w : ℕ → ℕ → ℕ) where
-  -- C i j is 1 for the vertex alone if i is j, and C b j for each edge from i to b
-  abbrev pub Recurrence : (ℕ → ℕ → ℕ) → Type 0
-  Recurrence C = (i j : ℕ) → i < n → j < n → C i j ≡ delta i j + sum n (λ b. w i b * C b j)
-
-  -- the same, modulo m
-  abbrev pub Recurrence-mod : ℕ → (ℕ → ℕ → ℕ) → Type 0
-  Recurrence-mod m C = (i j : ℕ) → i < n → j < n → Congruent m (C i j) (delta i j + sum n (λ b. w i b * C b j))
-
-  -- the same by the last edge, from a to j
-  abbrev pub RecurrenceBack : (ℕ → ℕ → ℕ) → Type 0
-  RecurrenceBack C = (i j : ℕ) → i < n → j < n → C i j ≡ delta i j + sum n (λ a. C i a * w a j)
-
   -- ---- sums over the edges out of i
 
   -- they agree where the terms agree at the ends of the edges
@@ -53,7 +42,7 @@ module _ (n : ℕ) (w : ℕ → ℕ → ℕ) where
         | no q ↦ let z : w i b ≡ 0 = omega arith in rw (z, zero-mul (f b), zero-mul (g b))
       ])
 
-  pub edge-cong : (i : ℕ) (f g : ℕ → ℕ) → ((b : ℕ) → b < n → Edge n w i b → f b ≡ g b) → sum n (λ b. w i b * f b) ≡ sum n (λ b. w i b * g b)
+  edge-cong : (i : ℕ) (f g : ℕ → ℕ) → ((b : ℕ) → b < n → Edge n w i b → f b ≡ g b) → sum n (λ b. w i b * f b) ≡ sum n (λ b. w i b * g b)
   edge-cong i f g h = congruent-zero (edge-congruent 0 i f g (λ b p q. ap (λ x. x % 0) (h b p q)))
 
   edge-pos : (i : ℕ) (f : ℕ → ℕ) (b : ℕ) → b < n → Edge n w i b → 0 < f b → 0 < sum n (λ b. w i b * f b)
@@ -68,12 +57,12 @@ module _ (n : ℕ) (w : ℕ → ℕ → ℕ) where
   walks-more (suc k) i j d =
       rw (edge-cong i (λ b. walks n w k b j) (λ b. walks n w (suc k) b j) (λ b h p. walks-more k b j (d b h p)))
 
-  pub pathCount-recurrence : Acyclic n w → Recurrence (pathCount n w)
+  pub pathCount-recurrence : Acyclic n w → Recurrence n w (pathCount n w)
   unfolding pathCount walks
   pathCount-recurrence a i j hi hj = walks-more n i j (deep n w a i hi)
 
   -- where no walk from i has more than k vertices, a table of the recurrence counts the walks
-  recurrence-walks : (m : ℕ) (C : ℕ → ℕ → ℕ) → Recurrence-mod m C → (k i j : ℕ) → i < n → j < n → Deep n w k i → Congruent m (C i j) (walks n w k i j)
+  recurrence-walks : (m : ℕ) (C : ℕ → ℕ → ℕ) → Recurrence-mod n w m C → (k i j : ℕ) → i < n → j < n → Deep n w k i → Congruent m (C i j) (walks n w k i j)
   unfolding walks
   recurrence-walks m C r zero i j hi hj d = absurd d
   recurrence-walks m C r (suc k) i j hi hj d =
@@ -81,11 +70,11 @@ module _ (n : ℕ) (w : ℕ → ℕ → ℕ) where
       ∙ congruent-add m (delta i j) (sum n (λ b. w i b * C b j)) (delta i j) (sum n (λ b. w i b * walks n w k b j)) refl
       (edge-congruent m i (λ b. C b j) (λ b. walks n w k b j) (λ b h p. recurrence-walks m C r k b j h hj (d b h p)))
 
-  pub recurrence-mod-only : Acyclic n w → (m : ℕ) (C : ℕ → ℕ → ℕ) → Recurrence-mod m C → (i j : ℕ) → i < n → j < n → Congruent m (C i j) (pathCount n w i j)
+  pub recurrence-mod-only : Acyclic n w → (m : ℕ) (C : ℕ → ℕ → ℕ) → Recurrence-mod n w m C → (i j : ℕ) → i < n → j < n → Congruent m (C i j) (pathCount n w i j)
   unfolding pathCount
   recurrence-mod-only a m C r i j hi hj = recurrence-walks m C r n i j hi hj (deep n w a i hi)
 
-  pub recurrence-only : Acyclic n w → (C : ℕ → ℕ → ℕ) → Recurrence C → (i j : ℕ) → i < n → j < n → C i j ≡ pathCount n w i j
+  pub recurrence-only : Acyclic n w → (C : ℕ → ℕ → ℕ) → Recurrence n w C → (i j : ℕ) → i < n → j < n → C i j ≡ pathCount n w i j
   recurrence-only a C r i j hi hj = congruent-zero (recurrence-mod-only a 0 C (λ i j hi hj. ap (λ x. x % 0) (r i j hi hj)) i j hi hj)
 
   -- ---- the recurrence by the last edge
@@ -102,20 +91,20 @@ module _ (n : ℕ) (w : ℕ → ℕ → ℕ) where
       ∙ ap₂ (λ x y. x + y) (sum-pick-right n j (w i) hj ∙ sym (sum-pick′ n i (λ a. w a j) hi)) (sum-assoc n (w i) (walks n w k) (λ a. w a j))
       ∙ sym (sum-add-mul n (delta i) (λ a. sum n (λ b. w i b * walks n w k b a)) (λ a. w a j)))
 
-  pub pathCount-recurrence-back : Acyclic n w → RecurrenceBack (pathCount n w)
+  pub pathCount-recurrence-back : Acyclic n w → RecurrenceBack n w (pathCount n w)
   unfolding pathCount
   pathCount-recurrence-back a i j hi hj = walks-more n i j (deep n w a i hi) ∙ walks-last n i j hi hj
 
   -- ---- where a count is above 0
 
   -- a table of the recurrence is above 0 where edges lead
-  pub recurrence-reach : (C : ℕ → ℕ → ℕ) → Recurrence C → (i : ℕ) (l : List ℕ) (j : ℕ) → i < n → j < n → Walk n w i l j → 0 < C i j
+  recurrence-reach : (C : ℕ → ℕ → ℕ) → Recurrence n w C → (i : ℕ) (l : List ℕ) (j : ℕ) → i < n → j < n → Walk n w i l j → 0 < C i j
   recurrence-reach C r i [] j hi hj e = rw (r i j hi hj, e, delta-refl j) (omega arith)
   recurrence-reach C r i (b ∷ l) j hi hj p =
       omega (arith, r i j hi hj, edge-pos i (λ b. C b j) b (p .0) (p .1) (recurrence-reach C r b l j (p .0) hj (p .2)))
 
   -- at a vertex on a cycle it is above 1: the vertex alone, and the way round
-  pub recurrence-cycle : (C : ℕ → ℕ → ℕ) → Recurrence C → (q : Cycle n w) → 1 < C (q .at) (q .at)
+  pub recurrence-cycle : (C : ℕ → ℕ → ℕ) → Recurrence n w C → (q : Cycle n w) → 1 < C (q .at) (q .at)
   recurrence-cycle C r q =
       let s = q .at in
       let hs : s < n = q .bounded in

@@ -25,6 +25,16 @@ module _ (n : ℕ) (w : ℕ → ℕ → ℕ) where
   walk-end i [] j e = inl (sym e)
   walk-end i (b ∷ l) j p = inr (walk-end b l j (p .2))
 
+  -- where every edge rises, a walk does not fall, and there is no cycle
+  module _ (h : ℕ → ℕ) (rises : (i j : ℕ) → i < n → j < n → Edge n w i j → h i < h j) where
+    walk-rises : (i : ℕ) (l : List ℕ) (j : ℕ) → i < n → Walk n w i l j → h i ≤ h j
+    walk-rises i [] j hi e = rw e (omega arith)
+    walk-rises i (b ∷ l) j hi p = omega (arith, rises i b hi (p .0) (p .1), walk-rises b l j (p .0) (p .2))
+
+    pub rising-acyclic : Acyclic n w
+    rising-acyclic q =
+        let p = q .back in omega (arith, rises (q .at) (q .next) (q .bounded) (p .0) (p .1), walk-rises (q .next) (q .rest) (q .at) (p .0) (p .2))
+
   -- a path has at most n vertices
   pub path-length-le : (i j : ℕ) (l : List ℕ) → IsPath n w i j l → length l ≤ n
   path-length-le i j [] p = absurd p

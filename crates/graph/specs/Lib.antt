@@ -1,5 +1,6 @@
 pub mod Graph
 pub mod Count
+pub mod Recurrence
 pub mod Order
 pub mod Update
 pub mod Uses

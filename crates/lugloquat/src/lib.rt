@@ -1,15 +1,15 @@
-// The C interface: each public call under a C name, with the contract of the call that it forwards to. include/lugloquat.h
+// The C interface: each call on a sheet under a C name, with the contract of the call that it forwards to. include/lugloquat.h
 // declares what this file exports; a slice crosses as a pointer and a number of words or bytes.
 ghost use mathlib.Core.Path.{_≡_};
 ghost use lib.ListN.{length};
 ghost use Rattle.sheet.specs.Calls.{emptyAnswer, emptyAfter, pathCountAnswer};
 ghost use Rattle.recount.specs.Calls.{Recount, Validate};
-ghost use Rattle.edit.specs.Edit.{insertEdge, deleteEdge, insertEdgesAt, deleteEdgesAt};
-ghost use Rattle.edit.specs.Outcome.{editAnswer, editAfter};
-ghost use Rattle.query.specs.ReachesWithout.{reachesWithoutAnswer};
-ghost use Rattle.query.specs.Unrank.{unrankAnswer, unrankAfter};
-ghost use Rattle.query.specs.Rank.{rankAnswer};
-ghost use Rattle.plan.specs.Calls.{ReadPlan, WritePlan};
+ghost use Rattle.edit_theory.specs.Edit.{insertEdge, deleteEdge, insertEdgesAt, deleteEdgesAt};
+ghost use Rattle.edit_theory.specs.Outcome.{editAnswer, editAfter};
+ghost use Rattle.query_theory.specs.ReachesWithout.{reachesWithoutAnswer};
+ghost use Rattle.query_theory.specs.Unrank.{unrankAnswer, unrankAfter};
+ghost use Rattle.query_theory.specs.Rank.{rankAnswer};
+ghost use Rattle.plan_theory.specs.Calls.{ReadPlan, WritePlan};
 use sheet::Answer;
 
 // The empty sheet of n vertices, whatever the words were. Refused by 1, 2. The value is 0.
@@ -91,7 +91,8 @@ pub extern "C" fn lugloquat_path_count(n: usize, sheet: &[u64], from: usize, to:
     sheet::path_count(n, sheet, from, to)
 }
 
-// Whether the counts show a path from one vertex to another that does not use an edge. Refused by 1, 2, 3, 7. The value is 1 or 0.
+// Whether the product of the counts to an edge and from it differs from the count between two vertices; on a valid sheet, whether
+// there is a path between them that does not use the edge. Refused by 1, 2, 3, 7. The value is 1 or 0.
 #[no_mangle]
 pub extern "C" fn lugloquat_reaches_without(
     n: usize,

@@ -8,8 +8,8 @@ use Rattle.graph.specs.Update.{fromSum, toSum}
 use Rattle.sheet.specs.Table.{firstTrue}
 use Rattle.sheet.specs.Answers.{answer}
 use Rattle.sheet.specs.Layout.{setBits, build, redoneWord, redone, emptySheet}
-use Rattle.edit.specs.Edit.{Edit, insertEdge, insertEdgesAt}
-use Rattle.edit.specs.Outcome.{some, someEdge, closes, editedRow, editedBy, editedCount, edited}
+use Rattle.edit_theory.specs.Edit.{Edit, insertEdge, insertEdgesAt}
+use Rattle.edit_theory.specs.Outcome.{some, someEdge, closes, editedRow, editedBy, editedCount, edited}
 use Rattle.model.specs.Run.{answers, after}
 
 edits : List Edit

@@ -4,11 +4,11 @@ use mathlib.Core.Path.{_≡_, refl, sym, ap, ap₂, subst, _∙_}
 use mathlib.Core.List.{List, [], _∷_, _++_}
 use Prim.Native.Nat.{ℕ}
 use Rattle.sheet.specs.declared.answer.Answer.{Answer}
-use Rattle.edit.specs.Edit.{Edit}
-use Rattle.edit.specs.Outcome.{editAnswer, editAfter}
-use Rattle.edit.specs.Model.{Model}
-use Rattle.edit.proofs.FreshLaws.{Modelled}
-use Rattle.edit.proofs.StepLaws.{edit-step, step-only}
+use Rattle.edit_theory.specs.Edit.{Edit}
+use Rattle.edit_theory.specs.Outcome.{editAnswer, editAfter}
+use Rattle.edit_theory.specs.Model.{Model}
+use Rattle.edit_theory.proofs.FreshLaws.{Modelled}
+use Rattle.edit_theory.proofs.StepLaws.{edit-step, step-only}
 use Rattle.model.specs.Run.{Run, done, then, answers, after}
 
 pub run-modelled : (es : List Edit) (m : Model) (s : List ℕ) → Modelled m s

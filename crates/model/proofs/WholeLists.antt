@@ -14,16 +14,16 @@ use Rattle.sheet.proofs.LayoutLaws.{length-redone, row-redone}
 use Rattle.sheet.proofs.Meaning.{empty-leaves}
 use Rattle.recount.specs.Calls.{Recount}
 use Rattle.recount.proofs.Meaning.{recount-same, validate-iff, valid-validates}
-use Rattle.edit.specs.Edit.{Edit}
-use Rattle.edit.specs.Model.{Model, opened, Fresh}
-use Rattle.edit.proofs.FreshLaws.{Modelled, modelled-valid, valid-modelled, fresh-only}
-use Rattle.edit.proofs.OneEdit.{edit-changes}
+use Rattle.edit_theory.specs.Edit.{Edit}
+use Rattle.edit_theory.specs.Model.{Model, opened, Fresh}
+use Rattle.edit_theory.proofs.FreshLaws.{Modelled, modelled-valid, valid-modelled, fresh-only}
+use Rattle.edit_theory.proofs.OneEdit.{edit-changes}
 use Rattle.model.specs.Run.{Run, after}
 use Rattle.model.specs.WholeList.{Tested, SameEdges, WholeList}
 use Rattle.model.proofs.RunLaws.{run-modelled, run-only}
 
 tested-valid : {n : ℕ} {s : List ℕ} → Tested n s → Valid n s
-tested-valid {n} {s} t = validate-iff n s (t .answer) (t .validated) .0 (t .one)
+tested-valid {n} {s} t = validate-iff n s (t .reply) (t .validated) .0 (t .one)
 
 -- what `empty` answers and leaves
 empty-starts : (n : ℕ) (w : List ℕ) → Shape n w → (emptyAnswer n w ≡ answer 0 0 0) × Tested n (emptyAfter n w)
@@ -32,7 +32,7 @@ empty-starts n w h =
     let z : emptyAnswer n w .number ≡ 0 = empty-table n w 0 .1 (shape-passed n w h [] 0 refl) in
     let e = empty-leaves n w z in (
       ap (λ (k : ℕ). answered k 0) z,
-      record { answer = answer 0 0 1; validated = valid-validates n (emptyAfter n w) (e .0); one = refl },
+      record { reply = answer 0 0 1; validated = valid-validates n (emptyAfter n w) (e .0); one = refl },
       e .1,
     )
 

@@ -2,9 +2,9 @@
 use mathlib.Core.List.{List, [], _∷_}
 use Prim.Native.Nat.{ℕ}
 use Rattle.sheet.specs.declared.answer.Answer.{Answer}
-use Rattle.edit.specs.Edit.{Edit}
-use Rattle.edit.specs.Outcome.{editAnswer, editAfter}
-use Rattle.edit.specs.Model.{Model, Step}
+use Rattle.edit_theory.specs.Edit.{Edit}
+use Rattle.edit_theory.specs.Outcome.{editAnswer, editAfter}
+use Rattle.edit_theory.specs.Model.{Model, Step}
 
 -- m, given the edits es one after the other, answers rs and is m′ at the end
 pub data Run : Model → List Edit → List Answer → Model → Type 0 where

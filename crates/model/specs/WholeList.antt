@@ -8,17 +8,17 @@ use Rattle.sheet.specs.Layout.{Shape, rowAt, countAt, edgeAt, redone}
 use Rattle.sheet.specs.Valid.{Valid}
 use Rattle.sheet.specs.Calls.{emptyAnswer, emptyAfter}
 use Rattle.recount.specs.Calls.{Recount, Validate}
-use Rattle.edit.specs.Edit.{Edit}
-use Rattle.edit.specs.Outcome.{editAnswer, editAfter}
-use Rattle.edit.specs.Model.{Model, opened, Fresh}
-use Rattle.edit.specs.Change.{Changed}
+use Rattle.edit_theory.specs.Edit.{Edit}
+use Rattle.edit_theory.specs.Outcome.{editAnswer, editAfter}
+use Rattle.edit_theory.specs.Model.{Model, opened, Fresh}
+use Rattle.edit_theory.specs.Change.{Changed}
 use Rattle.model.specs.Run.{Run, answers, after}
 
 -- s is a sheet of n vertices that validate answers with the value 1
 pub record Tested (n : ℕ) (s : List ℕ) : Type 0 where
-  pub answer : Answer
-  pub validated : Validate n s answer
-  pub one : answer .value ≡ 1
+  pub reply : Answer
+  pub validated : Validate n s reply
+  pub one : reply .value ≡ 1
 
 -- two models with equally many vertices and equal edges
 pub record SameEdges (m m′ : Model) : Type 0 where

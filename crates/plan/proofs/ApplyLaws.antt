@@ -17,14 +17,14 @@ use Rattle.sheet.specs.Answers.{answer, decided}
 use Rattle.sheet.specs.Layout.{Shape, setBits}
 use Rattle.sheet.proofs.LayoutLaws.{square-le}
 use Rattle.sheet.proofs.AnswerLaws.{decided-old}
-use Rattle.edit.specs.Edit.{edgeEdit, insertEdge, deleteEdge}
-use Rattle.edit.specs.Outcome.{editAnswer, editAfter}
-use Rattle.edit.proofs.Refusals.{edit-refused}
-use Rattle.plan.specs.Records.{records, numberOn, leftBy, Applied, applied}
-use Rattle.plan.specs.Calls.{appliedPlan}
+use Rattle.edit_theory.specs.Edit.{edgeEdit, insertEdge, deleteEdge}
+use Rattle.edit_theory.specs.Outcome.{editAnswer, editAfter}
+use Rattle.edit_theory.proofs.Refusals.{edit-refused}
+use Rattle.plan_theory.specs.Records.{records, numberOn, leftBy, Applied, applied}
+use Rattle.plan_theory.specs.Calls.{appliedPlan}
 use Rattle.plan.specs.Internal.{Reached, AppliedAll}
-use Rattle.plan.proofs.RecordsLaws.{firstRecords, records-first}
-use Rattle.plan.proofs.AppliedLaws.{applied-place}
+use Rattle.plan_theory.proofs.RecordsLaws.{firstRecords, records-first}
+use Rattle.plan_theory.proofs.AppliedLaws.{applied-place}
 
 -- ---- one record
 
@@ -37,28 +37,19 @@ edgeRecord false u v = Delete u v
 module _ (inserts : Bool) (n : ℕ) (s : List ℕ) (x : Record) (u v : ℕ) (ex : x ≡ edgeRecord inserts u v) where
   pub record-edge : (r : Answer) → r ≡ editAnswer (edgeEdit inserts n u v) s → r .number ≡ numberOn n s x
   unfolding numberOn
-  record-edge r e = ap (λ (y : Answer). y .number) e ∙ (go inserts ∙ ap (numberOn n s) (sym ex))
-    where
-      go : (b : Bool) → editAnswer (edgeEdit b n u v) s .number ≡ numberOn n s (edgeRecord b u v)
-      go true = refl
-      go false = refl
+  record-edge r e = rw (e, ex) (elim inserts [ true ↦ refl | false ↦ refl ])
 
   pub left-edge : (t : List ℕ) → t ≡ editAfter (edgeEdit inserts n u v) s → t ≡ leftBy n s x
-  left-edge t e = e ∙ (go inserts ∙ ap (leftBy n s) (sym ex))
-    where
-      go : (b : Bool) → editAfter (edgeEdit b n u v) s ≡ leftBy n s (edgeRecord b u v)
-      go true = refl
-      go false = refl
-
-module _ (n : ℕ) (s : List ℕ) (x : Record) where
-  pub record-malformed : x ≡ Malformed → 14 ≡ numberOn n s x
-  unfolding numberOn
-  record-malformed ex = rw ex refl
-
-  pub left-malformed : x ≡ Malformed → s ≡ leftBy n s x
-  left-malformed ex = rw ex refl
+  left-edge t e = rw (e, ex) (elim inserts [ true ↦ refl | false ↦ refl ])
 
 module _ (n : ℕ) (s : List ℕ) where
+  pub record-malformed : (x : Record) → x ≡ Malformed → 14 ≡ numberOn n s x
+  unfolding numberOn
+  record-malformed x ex = rw ex
+
+  pub left-malformed : (x : Record) → x ≡ Malformed → s ≡ leftBy n s x
+  left-malformed x ex = rw ex
+
   -- a record that is refused leaves every word
   left-refused : (x : Record) → ¬ (numberOn n s x ≡ 0) → leftBy n s x ≡ s
   unfolding numberOn

@@ -16,13 +16,13 @@ use Rattle.sheet.specs.Layout.{Shape, setBits}
 use Rattle.sheet.proofs.TableLaws.{reflects-or, reflects-not, reflects-lt, reflects-eq, reflects-false, first-true, first-past, first-here, first-next, first-none}
 use Rattle.sheet.proofs.AnswerLaws.{decided-old}
 use Rattle.sheet.proofs.Meaning.{valid-edges-le}
-use Rattle.plan.specs.PlanOf.{planOf}
-use Rattle.plan.specs.Calls.{mostBytes, BadPlan, lengthNumber, readConditions, readAnswer, ReadPlan, ShortBuffer, writeConditions, WritePlan}
+use Rattle.plan_theory.specs.PlanOf.{planOf}
+use Rattle.plan_theory.specs.Calls.{mostBytes, BadPlan, lengthNumber, readConditions, readAnswer, ReadPlan, ShortBuffer, writeConditions, WritePlan}
 use Rattle.recount.specs.Internal.{SheetNumber}
 use Rattle.recount.proofs.ValidateLaws.{valid-stops, valid-of, valid-passes}
 use Rattle.plan.specs.Internal.{ReadNumber, AppliedAll}
 use Rattle.sheet.proofs.ValidLaws.{accepted-valid}
-use Rattle.plan.proofs.PlanOfLaws.{plan-length}
+use Rattle.plan_theory.proofs.PlanOfLaws.{plan-length}
 
 -- ---- length_number
 

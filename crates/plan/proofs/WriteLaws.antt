@@ -9,7 +9,7 @@ use Rattle.text.specs.Text.{Put}
 use Rattle.text.proofs.TextLaws.{put-none}
 use Rattle.record.specs.Record.{insertLetter, encoded}
 use Rattle.sheet.specs.Layout.{rowAt}
-use Rattle.plan.specs.PlanOf.{edgeBytes}
+use Rattle.plan_theory.specs.PlanOf.{edgeBytes}
 
 -- ---- write_edge: t is the bit of the edge
 

@@ -5,8 +5,8 @@ use Prim.Native.Nat.{ℕ}
 use Rattle.sheet.specs.declared.answer.Answer.{Answer}
 use Rattle.sheet.specs.Table.{First}
 use Rattle.sheet.specs.Answers.{answer}
-use Rattle.plan.specs.Records.{Applied}
-use Rattle.plan.specs.Calls.{readConditions, readAnswer, readAfter}
+use Rattle.plan_theory.specs.Records.{Applied}
+use Rattle.plan_theory.specs.Calls.{readConditions, readAnswer, readAfter}
 
 -- k is what is found before the first record: 1, 2, 9, 13; or 0
 abbrev pub ReadNumber : ℕ → List ℕ → List ℕ → ℕ → Type 0

@@ -1,6 +1,1 @@
-pub mod Records
-pub mod PlanOf
-pub mod Taken
-pub mod Accepted
-pub mod Calls
 pub mod Internal

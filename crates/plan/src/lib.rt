@@ -1,6 +1,6 @@
 // Plans: edits of one edge each, written by a grower, read into a sheet, and the edges of a sheet written as a plan. The calls of this
 // file answer every n, every length, all words and all bytes.
-ghost use Rattle.plan.specs.Calls.{ReadPlan, WritePlan};
+ghost use Rattle.plan_theory.specs.Calls.{ReadPlan, WritePlan};
 use sheet::Answer;
 use sheet::Refusal;
 

@@ -4,7 +4,7 @@ ghost use Prim.Native.Nat.{_+_, _≤_, _<_};
 ghost use lib.ListN.{length};
 ghost use Rattle.text.specs.Text.{Put, written};
 ghost use Rattle.sheet.specs.Layout.{Shape};
-ghost use Rattle.plan.specs.PlanOf.{edgeBytes, rowBytes, planOf};
+ghost use Rattle.plan_theory.specs.PlanOf.{edgeBytes, rowBytes, planOf};
 
 // The record of the edge from i to j, if there is one, from a place on: the place after it.
 fn write_edge(sheet: &[u64], i: usize, j: usize, plan: &mut [u8], at: usize) -> usize

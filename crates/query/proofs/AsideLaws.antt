@@ -8,10 +8,10 @@ use lib.ListN.{length, take, set, length-set}
 use lib.Seq.{length-take-le, take-suc-set}
 use Rattle.sheet.specs.Layout.{countAt, edgeAt}
 use Rattle.query.specs.declared.walk.Next.{Next}
-use Rattle.query.specs.Walk.{headed, walked}
-use Rattle.query.specs.Unrank.{walk}
+use Rattle.query_theory.specs.Walk.{headed, walked}
+use Rattle.query_theory.specs.Unrank.{walk}
 use Rattle.query.specs.Internal.{Stepped, WalkKept}
-use Rattle.query.proofs.WalkLaws.{walked-none, walked-here, walked-left, walked-goes, walked-passes}
+use Rattle.query_theory.proofs.WalkLaws.{walked-none, walked-here, walked-left, walked-goes, walked-passes}
 
 -- ---- vertices before a walk that arrives
 

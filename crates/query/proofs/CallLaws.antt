@@ -1,6 +1,6 @@
--- The ways out of the calls: k is what their checks gave. Assumes nothing.
+-- The product, and the ways out of `unrank` and `rank`: m and k are what their checks gave. Assumes nothing.
 use mathlib.Core.Path.{_≡_, refl, sym, ap, ap₂, _∙_}
-use mathlib.Core.Bool.{Bool, true, false, cond}
+use mathlib.Core.Bool.{Bool, true, false}
 use mathlib.Core.List.{List, [], _∷_}
 use Prim.Native.Nat.{ℕ, _*_, _%_, _^_, _≤_}
 use native.Mathlib.Omega.{arith}
@@ -10,15 +10,13 @@ use Rattle.text.specs.Text.{written}
 use Rattle.sheet.specs.declared.answer.Answer.{Answer}
 use Rattle.sheet.specs.Table.{_gives_, Tests, firstTrue}
 use Rattle.sheet.specs.Answers.{answer}
-use Rattle.sheet.specs.Layout.{countAt}
 use Rattle.sheet.specs.Conditions.{vertexTests, sizedTests}
 use Rattle.sheet.specs.Internal.{shapeNumber}
 use Rattle.sheet.proofs.TableLaws.{first-here, first-next, first-none, first-stops, first-passes}
 use Rattle.sheet.proofs.ShapeLaws.{sized-stops, sized-passes}
 use Rattle.sheet.proofs.AnswerLaws.{answered-refused, answered-accepted, decided-refused, decided-accepted}
-use Rattle.query.specs.ReachesWithout.{reachesWithoutNumber, product, reachesWithout, reachesWithoutAnswer}
-use Rattle.query.specs.Unrank.{walk, numberTests, walkTests, unrankNumber, unrankAnswer, unrankAfter}
-use Rattle.query.specs.Rank.{someNoVertex, broken, pathTests, rankNumber, pathNumber, rankAnswer}
+use Rattle.query_theory.specs.Unrank.{walk, numberTests, walkTests, unrankNumber, unrankAnswer, unrankAfter}
+use Rattle.query_theory.specs.Rank.{someNoVertex, broken, pathTests, rankNumber, pathNumber, rankAnswer}
 use Rattle.query.specs.Internal.{beforeWalk, WalkKept}
 use Rattle.query.proofs.AsideLaws.{aside-taken}
 
@@ -26,18 +24,6 @@ use Rattle.query.proofs.AsideLaws.{aside-taken}
 
 pub product-cong : (a b c d r : ℕ) → a ≡ c → b ≡ d → r ≡ a * b % 2 ^ 64 → r ≡ c * d % 2 ^ 64
 product-cong a b c d r p q e = e ∙ ap₂ (λ (x y : ℕ). x * y % 2 ^ 64) p q
-
--- ---- reaches_without: x is the product, c the count
-
-module _ (n : ℕ) (s : List ℕ) (i j u v k : ℕ) (ek : k ≡ reachesWithoutNumber n s i j u v) (z : k ≡ 0)
-    (x c : ℕ) (ex : x ≡ product n s i j u v) (ec : c ≡ countAt n s i j) where
-  pub without-no : x ≡ c → (r : Answer) → r ≡ answer 0 0 0 → r ≡ reachesWithoutAnswer n s i j u v
-  unfolding reachesWithout
-  without-no e r er = answered-accepted k _ ek _ r z (er ∙ ap (λ (t : Bool). answer 0 0 (cond t 0 1)) (sym (eq-eqb _ _ (sym ex ∙ e ∙ ec))))
-
-  pub without-yes : (x ≡ c → ⊥) → (r : Answer) → r ≡ answer 0 0 1 → r ≡ reachesWithoutAnswer n s i j u v
-  unfolding reachesWithout
-  without-yes d r er = answered-accepted k _ ek _ r z (er ∙ ap (λ (t : Bool). answer 0 0 (cond t 0 1)) (sym (ne-eqb _ _ (λ e. d (ex ∙ e ∙ sym ec)))))
 
 -- ---- unrank: c vertices of the walk are kept in l
 

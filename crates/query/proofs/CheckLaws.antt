@@ -16,8 +16,8 @@ use Rattle.sheet.specs.Conditions.{vertexTests, sizedTests}
 use Rattle.sheet.specs.Internal.{shapeNumber, verticesNumber}
 use Rattle.sheet.proofs.TableLaws.{first-here, first-next, first-none, first-stops, first-passes}
 use Rattle.sheet.proofs.ShapeLaws.{sized-passes, vertices-ready}
-use Rattle.query.specs.ReachesWithout.{edgeTests, reachesWithoutNumber}
-use Rattle.query.specs.Unrank.{numberTests}
+use Rattle.query_theory.specs.ReachesWithout.{edgeTests, reachesWithoutNumber}
+use Rattle.query_theory.specs.Unrank.{numberTests}
 use Rattle.query.specs.Internal.{beforeWalk}
 
 -- ---- two vertices named, and further tests

@@ -1,12 +1,6 @@
 pub mod CheckLaws
 pub mod CallLaws
 pub mod PathLaws
-pub mod WalkLaws
 pub mod NumberLaws
 pub mod StepLaws
 pub mod AsideLaws
-pub mod BeforeLaws
-pub mod RankLaws
-pub mod Refusals
-pub mod Meaning
-pub mod Examples

@@ -12,8 +12,8 @@ use Rattle.word.specs.Bit.{withoutBit, Lowest}
 use Rattle.word.proofs.MaskLaws.{bit-below}
 use Rattle.word.proofs.CountLaws.{Adding, adding-start, adding-more, adding-done}
 use Rattle.sheet.specs.Layout.{rowAt, countAt, edgeAt}
-use Rattle.query.specs.Number.{passed, passedOver, end}
-use Rattle.query.specs.Rank.{pathNumber}
+use Rattle.query_theory.specs.Number.{passed, passedOver, end}
+use Rattle.query_theory.specs.Rank.{pathNumber}
 use Rattle.query.proofs.PathLaws.{drop-here, drop-both, drop-last}
 
 -- ---- pass_over: rest is what is left of the row's bits below b, x the sum so far

@@ -13,7 +13,7 @@ use lib.Seq.{drop-cons, drop-length}
 use Rattle.word.specs.Bit.{hasBit}
 use Rattle.word.proofs.BitLaws.{has-true, has-false}
 use Rattle.sheet.specs.Layout.{rowAt, edgeAt}
-use Rattle.query.specs.Rank.{someNoVertex, gap, broken}
+use Rattle.query_theory.specs.Rank.{someNoVertex, gap, broken}
 use Rattle.query.specs.Internal.{Vertices}
 
 -- ---- what is left of a list from a place on

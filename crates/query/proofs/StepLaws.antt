@@ -14,9 +14,9 @@ use Rattle.word.proofs.MaskLaws.{bit-below}
 use Rattle.word.proofs.CountLaws.{lowest-lt}
 use Rattle.sheet.specs.Layout.{rowAt, countAt, edgeAt}
 use Rattle.sheet.proofs.ValidLaws.{edge-le}
-use Rattle.query.specs.Number.{passed}
+use Rattle.query_theory.specs.Number.{passed}
 use Rattle.query.specs.Internal.{Stepped}
-use Rattle.query.proofs.WalkLaws.{passed-far, passed-next, tried-goes, tried-passes}
+use Rattle.query_theory.proofs.WalkLaws.{passed-far, passed-next, tried-goes, tried-passes}
 
 -- The edges from i to the vertices below c are tried, and `left` is left of k. The bits of rest are the edges to those from c on.
 pub record Trying (n : ℕ) (s : List ℕ) (j i k rest left : ℕ) : Type 0 where

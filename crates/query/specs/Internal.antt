@@ -8,8 +8,8 @@ use Rattle.sheet.specs.Table.{firstTrue}
 use Rattle.sheet.specs.Layout.{countAt, edgeAt}
 use Rattle.sheet.specs.Conditions.{vertexTests, sizedTests}
 use Rattle.query.specs.declared.walk.Next.{Next}
-use Rattle.query.specs.Walk.{goes, passes, tried}
-use Rattle.query.specs.Unrank.{numberTests, walk}
+use Rattle.query_theory.specs.Walk.{goes, passes, tried}
+use Rattle.query_theory.specs.Unrank.{numberTests, walk}
 
 -- the number that is given before a walk: 1, 2, 3, 10, 11 or 0
 abbrev pub beforeWalk : ℕ → List ℕ → ℕ → ℕ → ℕ → ℕ → ℕ

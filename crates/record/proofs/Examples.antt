@@ -8,46 +8,46 @@ use Rattle.record.specs.Record.{areDigits, encoded, insertLetter, delete
 use Rattle.record.specs.Reader.{readingAt}
 
 -- `L 00 01` and a line feed
-inserts : decoded (76 ∷ 32 ∷ 48 ∷ 48 ∷ 32 ∷ 48 ∷ 49 ∷ 10 ∷ []) ≡ Insert 0 1
+pub inserts : decoded (76 ∷ 32 ∷ 48 ∷ 48 ∷ 32 ∷ 48 ∷ 49 ∷ 10 ∷ []) ≡ Insert 0 1
 unfolding decoded areDigits
 inserts = refl
 
 -- `T 63 07` and a line feed
-deletes : decoded (84 ∷ 32 ∷ 54 ∷ 51 ∷ 32 ∷ 48 ∷ 55 ∷ 10 ∷ []) ≡ Delete 63 7
+pub deletes : decoded (84 ∷ 32 ∷ 54 ∷ 51 ∷ 32 ∷ 48 ∷ 55 ∷ 10 ∷ []) ≡ Delete 63 7
 unfolding decoded areDigits
 deletes = refl
 
 -- the same, written
-written : encoded deleteLetter 63 7 ≡ 84 ∷ 32 ∷ 54 ∷ 51 ∷ 32 ∷ 48 ∷ 55 ∷ 10 ∷ []
+pub written : encoded deleteLetter 63 7 ≡ 84 ∷ 32 ∷ 54 ∷ 51 ∷ 32 ∷ 48 ∷ 55 ∷ 10 ∷ []
 written = refl
 
 -- `L 0: 01`: the byte after `9` is no digit
-no-digit : decoded (76 ∷ 32 ∷ 48 ∷ 58 ∷ 32 ∷ 48 ∷ 49 ∷ 10 ∷ []) ≡ Malformed
+pub no-digit : decoded (76 ∷ 32 ∷ 48 ∷ 58 ∷ 32 ∷ 48 ∷ 49 ∷ 10 ∷ []) ≡ Malformed
 unfolding decoded areDigits
 no-digit = refl
 
 -- `l 00 01`
-small-letter : decoded (108 ∷ 32 ∷ 48 ∷ 48 ∷ 32 ∷ 48 ∷ 49 ∷ 10 ∷ []) ≡ Malformed
+pub small-letter : decoded (108 ∷ 32 ∷ 48 ∷ 48 ∷ 32 ∷ 48 ∷ 49 ∷ 10 ∷ []) ≡ Malformed
 unfolding decoded areDigits
 small-letter = refl
 
 -- `L 00 01` without the line feed
-seven-bytes : decoded (76 ∷ 32 ∷ 48 ∷ 48 ∷ 32 ∷ 48 ∷ 49 ∷ []) ≡ Malformed
+pub seven-bytes : decoded (76 ∷ 32 ∷ 48 ∷ 48 ∷ 32 ∷ 48 ∷ 49 ∷ []) ≡ Malformed
 unfolding decoded
 seven-bytes = refl
 
 -- two records and the beginning of a third
-plan : List ℕ
+pub plan : List ℕ
 plan = encoded insertLetter 0 1 ++ (encoded deleteLetter 63 7 ++ (76 ∷ []))
 
-second : readingAt plan 1 ≡ Read (Delete 63 7) 2
+pub second : readingAt plan 1 ≡ Read (Delete 63 7) 2
 unfolding plan readingAt decoded areDigits
 second = refl
 
-third : readingAt plan 2 ≡ Read Malformed 3
+pub third : readingAt plan 2 ≡ Read Malformed 3
 unfolding plan readingAt decoded
 third = refl
 
-at-the-end : readingAt plan 3 ≡ End
+pub at-the-end : readingAt plan 3 ≡ End
 unfolding plan readingAt
 at-the-end = refl

@@ -38,7 +38,7 @@ pub fn reader_at<'a>(plan: &'a [u8], k: usize) -> PlanReader<'a>
     PlanReader { plan, record: k }
 }
 
-// The record that a reader has got to.
+// The record that a reader has got to and the number of the next, or the end.
 pub fn next<'a>(reader: PlanReader<'a>) -> Reading
     ensures { λ r. ⌜ r ≡ readingAt (now (reader .entry .plan)) (reader .entry .«record») ⌝ }
 {

@@ -110,7 +110,7 @@ module _ (n : ℕ) (s l : List ℕ) (h : Ordered n s l) (shape : Shape n s) wher
 -- ---- the ways out of `recount`
 
 -- a sheet whose counts are the numbers of paths, and which is s besides, is s recounted
-pub recounted-of : (n : ℕ) (s t : List ℕ) → Shape n s → ¬ (Cycle n (edgeAt s)) → t ≡ counted n s → Recounted n s t
+recounted-of : (n : ℕ) (s t : List ℕ) → Shape n s → ¬ (Cycle n (edgeAt s)) → t ≡ counted n s → Recounted n s t
 recounted-of n s t shape acyclic e =
     let c : ℕ → ℕ → ℕ = λ i j. pathCount n (edgeAt s) i j % 2 ^ 64 in
     let count : (i j : ℕ) → i < n → j < n → countAt n t i j ≡ pathCount n (edgeAt s) i j

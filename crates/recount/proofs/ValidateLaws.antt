@@ -13,7 +13,7 @@ use Rattle.sheet.specs.Valid.{Valid, validConditions}
 use Rattle.sheet.specs.Internal.{RowHolds, shapeNumber}
 use Rattle.sheet.specs.declared.answer.Answer.{Answer}
 use Rattle.sheet.specs.Answers.{answer}
-use Rattle.sheet.proofs.TableLaws.{reflects-none, reflects-false, reflects-iff, first-only}
+use Rattle.sheet.proofs.TableLaws.{reflects-none, reflects-false, reflects-iff, first-only, first-more}
 use Rattle.sheet.proofs.ValidLaws.{valid-iff-holds, accepted-valid, valid-passed}
 use Rattle.sheet.proofs.ShapeLaws.{shape-of, shape-refused, shape-passed}
 use Rattle.recount.specs.Internal.{SheetNumber, OrderFound}
@@ -71,13 +71,7 @@ module _ (n : ℕ) (s : List ℕ) (k : ℕ) (ek : k ≡ shapeNumber n (length s)
 
 module _ (n : ℕ) (s : List ℕ) (l : Conditions) (k : ℕ) (h : SheetNumber n s k) where
   pub valid-stops : (k ≡ 0 → ⊥) → First (validConditions n s l) k
-  valid-stops d = go h
-    where
-      go : First (validConditions n s []) k → First (validConditions n s l) k
-      go (inl p) = inl p
-      go (inr (a, inl p)) = inr (a, inl p)
-      go (inr (a, inr (b, inl p))) = inr (a, inr (b, inl p))
-      go (inr (a, inr (b, inr (c, z)))) = absurd (d z)
+  valid-stops d = first-more (validConditions n s []) l k h d
 
   pub valid-of : k ≡ 0 → Valid n s
   valid-of z = accepted-valid n s [] (rw z at h)

@@ -19,10 +19,12 @@ use Rattle.sheet.specs.Valid.{Valid}
 use Rattle.sheet.proofs.ValidLaws.{valid-passed}
 use Rattle.sheet.proofs.AnswerLaws.{decided-old}
 use Rattle.sheet.proofs.Meaning.{empty-valid}
-use Rattle.plan.specs.Calls.{mostBytes, BadPlan, lengthNumber, readConditions, ReadPlan}
-use Rattle.plan.specs.Accepted.{AcceptedPlan}
+use Rattle.plan_theory.specs.Calls.{mostBytes, BadPlan, lengthNumber, readConditions, ReadPlan}
+use Rattle.plan_theory.specs.PlanOf.{planOf}
+use Rattle.plan_theory.specs.Accepted.{AcceptedPlan}
 use Rattle.plan.proofs.CallLaws.{length-long, length-first}
-use Rattle.plan.proofs.Meaning.{read-accepted, read-only}
+use Rattle.plan_theory.proofs.Meaning.{read-accepted, read-only}
+use Rattle.plan_theory.proofs.RoundTrip.{round-trip}
 use Rattle.report.specs.Lines.{pipesLine, refusedLine, countLine, pairLine, countLines, printed}
 use Rattle.report.specs.Listing.{listedAnswer, listedSheet, listing, inputBytes}
 use Rattle.report.proofs.LineLaws.{pair-hidden, pair-shown}
@@ -91,6 +93,13 @@ module _ (plan : List ℕ) (z : listedAnswer plan .number ≡ 0) where
   pub listing-accepted : listing plan ≡ pipesLine (setBits mostVertices (listedSheet plan)) ++ countLines (listedSheet plan)
   unfolding listing
   listing-accepted = ap (λ (r : Answer). printed r (listedSheet plan)) (listed-accepted .answered)
+
+-- THE LISTING OF A SHEET: what is written of a valid sheet is listed by how many edges it has and the lines of its counts
+pub listing-plan : (s : List ℕ) → Valid mostVertices s → listing (planOf mostVertices s) ≡ pipesLine (setBits mostVertices s) ++ countLines s
+listing-plan s v =
+    let p = planOf mostVertices s in
+    let e = round-trip mostVertices s v (listedAnswer p) (listedSheet p) (listing-reads p) in
+    listing-accepted p (ap (λ (r : Answer). r .number) (e .0)) ∙ ap (λ (t : List ℕ). pipesLine (setBits mostVertices t) ++ countLines t) (e .1)
 
 -- on a valid sheet the line of two different vertices has the number of paths between them, and there is none where there is no path
 pub pair-paths : (s : List ℕ) (i j c : ℕ) → Valid mostVertices s → i < mostVertices → j < mostVertices → ¬ (i ≡ j)

@@ -4,7 +4,7 @@ use Prim.Native.Nat.{ℕ, _+_}
 use lib.ListN.{length}
 use Rattle.sheet.specs.declared.answer.Answer.{Answer}
 use Rattle.sheet.specs.Layout.{mostVertices, emptySheet}
-use Rattle.plan.specs.Calls.{mostBytes, lengthNumber, readAnswer, readAfter}
+use Rattle.plan_theory.specs.Calls.{mostBytes, lengthNumber, readAnswer, readAfter}
 use Rattle.report.specs.Lines.{printed}
 
 -- what reading the plan answers and leaves; the empty sheet is valid, so nothing but the length is looked at before the first record

@@ -13,6 +13,10 @@ pub decided-old : {A : Type 0} (k : ℕ) (new old : A) → (k ≡ 0 → ⊥) →
 decided-old zero new old h = absurd (h refl)
 decided-old (suc k) new old h = refl
 
+-- the value of a refused call is 0
+pub answered-not : (k v : ℕ) → ¬ (k ≡ 0) → answered k v ≡ answer k 0 0
+answered-not k v d = ap (answer k 0) (decided-old k v 0 d)
+
 pub answer-ext : (r r′ : Answer) → r .number ≡ r′ .number → r .place ≡ r′ .place → r .value ≡ r′ .value → r ≡ r′
 answer-ext r r′ a b c =
     ap (λ (x : ℕ). answer x (r .place) (r .value)) a ∙ ap (λ (x : ℕ). answer (r′ .number) x (r .value)) b ∙ ap (λ (x : ℕ). answer (r′ .number) (r′ .place) x) c

@@ -12,7 +12,7 @@ use Rattle.sheet.specs.Layout.{Shape, size, countAt, emptySheet}
 use Rattle.sheet.specs.Fill.{puts, over}
 use Rattle.sheet.specs.Internal.{diagonalAt}
 use Rattle.sheet.proofs.FillLaws.{length-puts, puts-in, puts-out, over-in}
-use Rattle.sheet.proofs.LayoutLaws.{place-lt, place-row, place-column, redone-ext}
+use Rattle.sheet.proofs.LayoutLaws.{place-lt, place-only, redone-ext}
 
 module _ (n : ℕ) (s w t : List ℕ) (h : Shape n s) (ew : w ≡ over s 0 (λ (k : ℕ). 0) (length s)) (et : t ≡ puts w (diagonalAt n) (λ (k : ℕ). 1) n) where
   cleared-long : length w ≡ length s
@@ -36,10 +36,10 @@ module _ (n : ℕ) (s w t : List ℕ) (h : Shape n s) (ew : w ≡ over s 0 (λ (
         | yes e ↦
             rw (← e, delta-refl i)
             (ap (λ (l : List ℕ). getD l (diagonalAt n i) 0) et
-            ∙ puts-in w (diagonalAt n) (λ k. 1) n i hi (omega (arith, cleared-long, h .long, place-lt n i i hi hi)) (λ k r l q. omega (arith, place-row n i i k k hi r q)))
+            ∙ puts-in w (diagonalAt n) (λ k. 1) n i hi (omega (arith, cleared-long, h .long, place-lt n i i hi hi)) (λ k r l q. omega (arith, place-only n i i k k hi r q .0)))
         | no ne ↦
             rw (delta-diff i j ne)
-            (off (n + i * n + j) (place-lt n i j hi hj) (λ k r q. ne (place-row n i j k k hj r q ∙ sym (place-column n i j k k hj r q))))
+            (off (n + i * n + j) (place-lt n i j hi hj) (λ k r q. let p = place-only n i j k k hj r q in ne (p .0 ∙ sym (p .1))))
       ]
 
   pub empty-filled : t ≡ emptySheet n

@@ -27,13 +27,11 @@ module _ (l : List ℕ) (p f : ℕ → ℕ) where
   pub puts-in : (m j : ℕ) → j < m → p j < length l → ((i : ℕ) → i < m → j < i → p j ≡ p i → ⊥) → getD (puts l p f m) (p j) 0 ≡ f j
   unfolding puts
   puts-in zero j q b h = absurd (not-suc-le-zero q)
-  puts-in (suc m) j q b h = go (ℕ-discrete j m) (λ r. puts-in m j r b (λ i x. h i (omega arith)))
-    where
-      go : Dec (j ≡ m) → (j < m → getD (puts l p f m) (p j) 0 ≡ f j) → getD (set (puts l p f m) (p m) (f m)) (p j) 0 ≡ f j
-      go (yes e) rest =
-          subst (λ (x : ℕ). getD (set (puts l p f m) (p m) (f m)) (p x) 0 ≡ f x) (sym e)
-          (getD-set-same (puts l p f m) (p m) (f m) 0 (subst (λ (x : ℕ). p x < length (puts l p f m)) e (omega (arith, length-puts m))))
-      go (no n) rest = getD-set-other (puts l p f m) (p m) (p j) (f m) 0 (λ e. h m (omega arith) (omega (arith, n)) e) ∙ rest (omega (arith, n))
+  puts-in (suc m) j q b h =
+      elim (ℕ-discrete j m) [
+        | yes e ↦ rw e (getD-set-same (puts l p f m) (p m) (f m) 0 (omega (arith, length-puts m, ap p e)))
+        | no d ↦ getD-set-other (puts l p f m) (p m) (p j) (f m) 0 (λ e. h m (omega arith) (omega (arith, d)) e) ∙ puts-in m j (omega (arith, d)) b (λ i x. h i (omega arith))
+      ]
 
   pub puts-none : l ≡ puts l p f 0
   unfolding puts

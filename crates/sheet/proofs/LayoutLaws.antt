@@ -41,15 +41,10 @@ pub row-within : (n i : ℕ) → i < n → n + i * n + n ≤ size n
 row-within n i h = omega (arith, place-lt n i (n - 1) h (omega arith))
 
 -- a place tells its row and its column
-pub place-row : (n i j k m : ℕ) → j < n → m < n → n + i * n + j ≡ n + k * n + m → i ≡ k
-place-row n i j k m hj hm e =
+pub place-only : (n i j k m : ℕ) → j < n → m < n → n + i * n + j ≡ n + k * n + m → (i ≡ k) × (j ≡ m)
+place-only n i j k m hj hm e =
     let q : i * n + j ≡ k * n + m = omega arith in
-    sym (digits-div i hj) ∙ ap (λ (x : ℕ). x / n) q ∙ digits-div k hm
-
-pub place-column : (n i j k m : ℕ) → j < n → m < n → n + i * n + j ≡ n + k * n + m → j ≡ m
-place-column n i j k m hj hm e =
-    let q : i * n + j ≡ k * n + m = omega arith in
-    sym (digits-mod i hj) ∙ ap (λ (x : ℕ). x % n) q ∙ digits-mod k hm
+    (sym (digits-div i hj) ∙ ap (λ (x : ℕ). x / n) q ∙ digits-div k hm, sym (digits-mod i hj) ∙ ap (λ (x : ℕ). x % n) q ∙ digits-mod k hm)
 
 -- the counts from a do not stand among those from b
 pub place-apart : (n a b j : ℕ) → (a ≡ b → ⊥) → j < n → (n + a * n + j < n + b * n) ⊎ (n + b * n + n ≤ n + a * n + j)
@@ -61,19 +56,19 @@ place-apart n a b j d h =
 
 -- ---- lists by a function of the place
 
-pub length-build : (m : ℕ) (f : ℕ → ℕ) → length (build m f) ≡ m
+length-build : (m : ℕ) (f : ℕ → ℕ) → length (build m f) ≡ m
 unfolding build
 length-build zero f = refl
 length-build (suc m) f = ap suc (length-build m (λ k. f (suc k)))
 
-pub getD-build : (m : ℕ) (f : ℕ → ℕ) (k : ℕ) → k < m → getD (build m f) k 0 ≡ f k
+getD-build : (m : ℕ) (f : ℕ → ℕ) (k : ℕ) → k < m → getD (build m f) k 0 ≡ f k
 unfolding build
 getD-build zero f k h = absurd (not-suc-le-zero h)
 getD-build (suc m) f zero h = refl
 getD-build (suc m) f (suc k) h = getD-build m (λ i. f (suc i)) k (le-of-suc-le-suc h)
 
 -- a list of m numbers that has f k at each place k is `build m f`
-pub build-ext : (m : ℕ) (f : ℕ → ℕ) (l : List ℕ) → length l ≡ m → ((k : ℕ) → k < m → getD l k 0 ≡ f k) → l ≡ build m f
+build-ext : (m : ℕ) (f : ℕ → ℕ) (l : List ℕ) → length l ≡ m → ((k : ℕ) → k < m → getD l k 0 ≡ f k) → l ≡ build m f
 build-ext m f l e h =
     ext-getD 0 l (build m f) (e ∙ sym (length-build m f))
     (λ k q. let q′ : k < m = omega arith in h k q′ ∙ sym (getD-build m f k q′))

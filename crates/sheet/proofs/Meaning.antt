@@ -6,7 +6,7 @@ use Prim.Native.Nat.{ℕ, _+_, _-_, _*_, _%_, _^_, _≤_, _<_}
 use native.Mathlib.Nat.{mod-eq-of-lt, zero-mul, mul-le-mul-right}
 use native.Mathlib.Decide.{ℕ-discrete}
 use native.Mathlib.Omega.{arith}
-use lib.ListN.{length, set, replicate, length-replicate}
+use lib.ListN.{length, getD, set, replicate, length-replicate}
 use lib.Pow.{pow-pos}
 use lib.Seq.{getD-set-same, getD-set-other}
 use Rattle.sums.specs.Sum.{sum, delta}
@@ -18,7 +18,7 @@ use Rattle.graph.specs.Graph.{Exactly, IsPath}
 use Rattle.graph.proofs.Bound.{bound}
 use Rattle.graph.proofs.Edges.{edges-le}
 use Rattle.graph.proofs.Walks.{edgeless-acyclic}
-use Rattle.sheet.specs.Answers.{decided}
+use Rattle.sheet.specs.Answers.{answer, decided, answered}
 use Rattle.sheet.specs.Layout.{Shape, size, rowAt, countAt, edgeAt, emptySheet, setBits}
 use Rattle.sheet.specs.Conditions.{vertexConditions}
 use Rattle.sheet.specs.Valid.{Valid}
@@ -76,12 +76,17 @@ empty-leaves n s z =
 
 -- ---- path_count
 
--- on a valid sheet the value is exactly the number of paths from i to j
-pub path-count-exact : (n : ℕ) (s : List ℕ) (i j : ℕ) → Valid n s → i < n → j < n → Exactly (IsPath n (edgeAt s) i j) (pathCountAnswer n s i j .value)
+-- on any sheet the value is the word where the count stands
+pub path-count-stored : (n : ℕ) (s : List ℕ) (i j : ℕ) → pathCountAnswer n s i j .number ≡ 0 → pathCountAnswer n s i j ≡ answer 0 0 (getD s (n + i * n + j) 0)
+path-count-stored n s i j z = ap (λ (k : ℕ). answered k (countAt n s i j)) z
+
+-- on a valid sheet a call that names two vertices is accepted, and the value is exactly the number of paths from the one to the other
+pub path-count-exact : (n : ℕ) (s : List ℕ) (i j : ℕ) → Valid n s → i < n → j < n
+    → (pathCountAnswer n s i j .number ≡ 0) × Exactly (IsPath n (edgeAt s) i j) (pathCountAnswer n s i j .value)
 path-count-exact n s i j v hi hj =
     let z : pathCountAnswer n s i j .number ≡ 0
     = path-count-table n s i j 0 .1 (shape-passed n s (v .shape) (vertexConditions n i j []) 0 (inr (λ c. elim c [ inl l ↦ omega arith | inr l ↦ omega arith ], refl))) in
-    subst (Exactly (IsPath n (edgeAt s) i j)) (sym (ap (λ (k : ℕ). decided k (countAt n s i j) 0) z)) (v .counts i j hi hj)
+    (z, subst (Exactly (IsPath n (edgeAt s) i j)) (sym (ap (λ (k : ℕ). decided k (countAt n s i j) 0) z)) (v .counts i j hi hj))
 
 -- and that is at most 2 ^ (n - 2) between two different vertices, so that with 64 vertices it fits a word
 pub valid-count-le : (n : ℕ) (s : List ℕ) → Valid n s → (i j : ℕ) → i < n → j < n → (i ≡ j → ⊥) → countAt n s i j ≤ 2 ^ (n - 2)

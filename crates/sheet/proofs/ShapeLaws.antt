@@ -2,18 +2,20 @@
 -- two vertices: 3, one of them is n or more. Assumes nothing.
 use mathlib.Core.Path.{_≡_, refl, sym, _∙_}
 use mathlib.Core.Logic.{_⊎_, inl, inr}
+use mathlib.Core.Bool.{_||_}
 use mathlib.Core.List.{List, []}
 use Prim.Native.Nat.{ℕ, _≤_, _<_}
 use native.Mathlib.Nat.{lt-of-not-le}
 use native.Mathlib.Decide.{decLt, ℕ-discrete}
 use native.Mathlib.Omega.{arith}
+use lib.Dec.{ltb}
 use lib.ListN.{length}
-use Rattle.sheet.specs.Table.{Conditions, First, Tests, firstTrue}
+use Rattle.sheet.specs.Table.{Conditions, First, Tests, firstTrue, Reflects}
 use Rattle.sheet.specs.Layout.{Shape, size}
 use Rattle.sheet.specs.Conditions.{BadVertices, BadLength, vertexConditions, vertexTests, sized, sizedTests}
 use Rattle.sheet.specs.Internal.{shapeNumber, verticesNumber}
 use Rattle.sheet.proofs.TableLaws.{Agree, reflects-or, reflects-not, reflects-lt, reflects-le, reflects-eq, reflects-false}
-use Rattle.sheet.proofs.TableLaws.{first-true, first-past, first-rest, first-here, first-next, first-none, first-stops, first-passes}
+use Rattle.sheet.proofs.TableLaws.{first-true, first-past, first-rest, first-more, first-here, first-next, first-none, first-stops, first-passes}
 
 -- a sheet of which neither holds has the shape
 pub shape-not : (n : ℕ) (s : List ℕ) → ¬ (BadVertices n) → ¬ (BadLength n s) → Shape n s
@@ -23,11 +25,17 @@ shape-not n s p q = record {
   long = elim (ℕ-discrete (length s) (size n)) [ yes e ↦ e | no d ↦ absurd (q d) ];
 }
 
+few : (n : ℕ) → 1 ≤ n → n ≤ 64 → ¬ (BadVertices n)
+few n p q c = elim c [ inl l ↦ omega arith | inr l ↦ omega arith ]
+
 -- ---- the two tests decide the two conditions
+
+vertices-test : (n : ℕ) → Reflects (ltb n 1 || ltb 64 n) (BadVertices n)
+vertices-test n = reflects-or (reflects-lt n 1) (reflects-lt 64 n)
 
 pub sized-agree : (n : ℕ) (s : List ℕ) (cs : Conditions) (ts : Tests) → (Shape n s → Agree cs ts) → Agree (sized n s cs) (sizedTests n (length s) ts)
 sized-agree n s cs ts h = (
-  reflects-or (reflects-lt n 1) (reflects-lt 64 n),
+  vertices-test n,
   refl,
   λ p. (reflects-not (reflects-eq (length s) (size n)), refl, λ q. h (shape-not n s p q)),
 )
@@ -36,22 +44,19 @@ sized-agree n s cs ts h = (
 
 module _ (n len : ℕ) where
   pub shape-none : n < 1 → 1 ≡ shapeNumber n len
-  shape-none h = sym (first-here _ _ (reflects-or (reflects-lt n 1) (reflects-lt 64 n) .shows (inl h)))
+  shape-none h = sym (first-here _ _ (vertices-test n .shows (inl h)))
 
   pub shape-many : 64 < n → 1 ≡ shapeNumber n len
-  shape-many h = sym (first-here _ _ (reflects-or (reflects-lt n 1) (reflects-lt 64 n) .shows (inr h)))
-
-  some : 1 ≤ n → n ≤ 64 → ¬ (BadVertices n)
-  some p q c = elim c [ inl l ↦ omega arith | inr l ↦ omega arith ]
+  shape-many h = sym (first-here _ _ (vertices-test n .shows (inr h)))
 
   pub shape-long : (m : ℕ) → 1 ≤ n → n ≤ 64 → m ≡ size n → (len ≡ m → ⊥) → 2 ≡ shapeNumber n len
   shape-long m p q em d =
-      sym (first-next _ _ (reflects-false (reflects-or (reflects-lt n 1) (reflects-lt 64 n)) .1 (some p q))
+      sym (first-next _ _ (reflects-false (vertices-test n) .1 (few n p q))
       ∙ first-here _ _ (reflects-not (reflects-eq len (size n)) .shows (λ e. d (e ∙ sym em))))
 
   pub shape-good : (m : ℕ) → 1 ≤ n → n ≤ 64 → m ≡ size n → len ≡ m → 0 ≡ shapeNumber n len
   shape-good m p q em e =
-      sym (first-next _ _ (reflects-false (reflects-or (reflects-lt n 1) (reflects-lt 64 n)) .1 (some p q))
+      sym (first-next _ _ (reflects-false (vertices-test n) .1 (few n p q))
       ∙ first-next _ _ (reflects-false (reflects-not (reflects-eq len (size n))) .1 (λ d. d (e ∙ em)))
       ∙ first-none)
 
@@ -63,12 +68,7 @@ module _ (n : ℕ) (s : List ℕ) where
 
   -- a number that is not 0 is the call's
   pub shape-refused : (k : ℕ) → k ≡ shapeNumber n (length s) → (k ≡ 0 → ⊥) → (cs : Conditions) → First (sized n s cs) k
-  shape-refused k e d cs = go (rw (← e) at shape-first)
-    where
-      go : First (sized n s []) k → First (sized n s cs) k
-      go (inl p) = inl p
-      go (inr (p, inl q)) = inr (p, inl q)
-      go (inr (p, inr (q, z))) = absurd (d z)
+  shape-refused k e d cs = first-more (sized n s []) cs k (rw (← e) at shape-first) d
 
   -- a call that is not refused by 1 or 2 has the shape
   pub accepted-shape : (cs : Conditions) → First (sized n s cs) 0 → Shape n s
@@ -80,11 +80,10 @@ module _ (n : ℕ) (s : List ℕ) where
 
   -- and that the call's is that of the further conditions
   pub shape-passed : Shape n s → (cs : Conditions) (k : ℕ) → First cs k → First (sized n s cs) k
-  shape-passed h cs k f = inr (λ c. elim c [ inl l ↦ omega (arith, h .low) | inr l ↦ omega (arith, h .high) ], inr (λ d. d (h .long), f))
+  shape-passed h cs k f = inr (few n (h .low) (h .high), inr (λ d. d (h .long), f))
 
   pub shape-rest : Shape n s → (cs : Conditions) (k : ℕ) → First (sized n s cs) k → First cs k
-  shape-rest h cs k f =
-      first-rest (λ d. d (h .long)) (first-rest (λ c. elim c [ inl l ↦ omega (arith, h .low) | inr l ↦ omega (arith, h .high) ]) f)
+  shape-rest h cs k f = first-rest (λ d. d (h .long)) (first-rest (few n (h .low) (h .high)) f)
 
 -- ---- the same of tests
 
@@ -130,7 +129,7 @@ module _ (n : ℕ) (s : List ℕ) (i j k : ℕ) (e : k ≡ verticesNumber n (len
   accepted-vertices : First (sized n s (vertexConditions n i j [])) 0
   accepted-vertices = rw (← e, z) at (vertices-first n s i j)
 
-  pub vertices-shape : Shape n s
+  vertices-shape : Shape n s
   vertices-shape = accepted-shape n s (vertexConditions n i j []) accepted-vertices
 
   pub vertices-below : (n ≤ 64) × (i < n) × (j < n)

@@ -2,7 +2,7 @@
 -- Assumes nothing.
 use mathlib.Core.Path.{_≡_, refl, sym, _∙_}
 use mathlib.Core.Logic.{_⊎_, inl, inr, _↔_}
-use mathlib.Core.Bool.{Bool, true, false, not, cond, _||_, false≢true}
+use mathlib.Core.Bool.{Bool, true, false, not, _||_, false≢true}
 use mathlib.Core.List.{[], _∷_, _++_}
 use Prim.Native.Nat.{ℕ, suc, _≤_, _<_}
 use native.Mathlib.Omega.{arith}
@@ -14,11 +14,8 @@ use Rattle.sheet.specs.Table.{_gives_, Conditions, First, Tests, firstTr
 
 -- a test that is false refutes, and a statement that is refuted has a false test
 pub reflects-false : {t : Bool} {P : Type 0} → Reflects t P → (t ≡ false) ↔ (¬ P)
-reflects-false {t} {P} p = (λ e x. false≢true (sym e ∙ p .shows x), go t p)
-  where
-    go : (t : Bool) → Reflects t P → (¬ P) → t ≡ false
-    go true p h = absurd (h (p .holds refl))
-    go false p h = refl
+reflects-false {t = true} p = (λ e x. false≢true (sym e), λ h. absurd (h (p .holds refl)))
+reflects-false {t = false} p = (λ e x. false≢true (p .shows x), λ h. refl)
 
 pub reflects-true : {P : Type 0} → P → Reflects true P
 reflects-true x = record { holds = λ e. x; shows = λ y. refl }
@@ -30,21 +27,15 @@ pub reflects-iff : {t : Bool} {P Q : Type 0} → (P → Q) → (Q → P) → Ref
 reflects-iff f g p = record { holds = λ e. f (p .holds e); shows = λ x. p .shows (g x) }
 
 pub reflects-or : {a b : Bool} {P Q : Type 0} → Reflects a P → Reflects b Q → Reflects (a || b) (P ⊎ Q)
-reflects-or {a} {b} {P} {Q} p q = go a p
-  where
-    go : (a : Bool) → Reflects a P → Reflects (a || b) (P ⊎ Q)
-    go true p = reflects-true (inl (p .holds refl))
-    go false p = record {
-      holds = λ e. inr (q .holds e);
-      shows = λ c. elim c [ inl x ↦ absurd (false≢true (p .shows x)) | inr x ↦ q .shows x ];
-    }
+reflects-or {a = true} p q = reflects-true (inl (p .holds refl))
+reflects-or {a = false} p q = record {
+  holds = λ e. inr (q .holds e);
+  shows = λ c. elim c [ inl x ↦ absurd (false≢true (p .shows x)) | inr x ↦ q .shows x ];
+}
 
 pub reflects-not : {t : Bool} {P : Type 0} → Reflects t P → Reflects (not t) (¬ P)
-reflects-not {t} {P} p = go t p
-  where
-    go : (t : Bool) → Reflects t P → Reflects (not t) (¬ P)
-    go true p = reflects-none (λ h. h (p .holds refl))
-    go false p = reflects-true (λ x. false≢true (p .shows x))
+reflects-not {t = true} p = reflects-none (λ h. h (p .holds refl))
+reflects-not {t = false} p = reflects-true (λ x. false≢true (p .shows x))
 
 pub reflects-lt : (x y : ℕ) → Reflects (ltb x y) (x < y)
 reflects-lt x y = record { holds = ltb-true x y; shows = lt-ltb x y }
@@ -69,11 +60,8 @@ unfolding firstTrue
 first-true [] [] a = refl
 first-true [] (t ∷ ts) a = absurd a
 first-true (c ∷ cs) [] a = absurd a
-first-true (c ∷ cs) (t ∷ ts) a = go (t .0) (a .0) (λ d. first-true cs ts (a .2 d))
-  where
-    go : (b : Bool) → Reflects b (c .0) → ((¬ (c .0)) → First cs (firstTrue ts)) → First (c ∷ cs) (cond b (t .1) (firstTrue ts))
-    go true r k = inl (r .holds refl, a .1)
-    go false r k = let d : ¬ (c .0) = λ p. false≢true (r .shows p) in inr (d, k d)
+first-true (c ∷ cs) ((true, k) ∷ ts) a = inl (a .0 .holds refl, a .1)
+first-true (c ∷ cs) ((false, k) ∷ ts) a = let d : ¬ (c .0) = λ p. false≢true (a .0 .shows p) in inr (d, first-true cs ts (a .2 d))
 
 -- the first condition that holds is one
 pub first-only : (cs : Conditions) (j k : ℕ) → First cs j → First cs k → j ≡ k
@@ -105,10 +93,21 @@ pub first-last : {P : Type 0} {m k : ℕ} → First (P gives suc m ∷ []) k →
 first-last (inl p) = (λ e. p .0, λ q. p .1)
 first-last (inr p) = (λ e. absurd (omega (arith, p .1)), λ q. absurd (p .0 q))
 
+-- and 0 exactly if it does not
+pub first-accepts : {P : Type 0} {m k : ℕ} → First (P gives suc m ∷ []) k → (k ≡ 0) ↔ (¬ P)
+first-accepts (inl p) = (λ e. absurd (omega (arith, p .1)), λ d. absurd (d (p .0)))
+first-accepts (inr p) = (λ e. p .0, λ d. p .1)
+
 -- conditions that hold together give the same number
 pub first-cong : {P Q : Type 0} (m : ℕ) (cs ds : Conditions) (k : ℕ) → P ↔ Q → (First cs k → First ds k) → First (P gives m ∷ cs) k → First (Q gives m ∷ ds) k
 first-cong m cs ds k e h (inl p) = inl (e .0 (p .0), p .1)
 first-cong m cs ds k e h (inr p) = inr (λ q. p .0 (e .1 q), h (p .1))
+
+-- a number that is not 0 stands, whatever conditions follow
+pub first-more : (cs ds : Conditions) (k : ℕ) → First cs k → (k ≡ 0 → ⊥) → First (cs ++ ds) k
+first-more [] ds k p d = absurd (d p)
+first-more (c ∷ cs) ds k (inl p) d = inl p
+first-more (c ∷ cs) ds k (inr p) d = inr (p .0, first-more cs ds k (p .1) d)
 
 -- a test that is true, and one that is false
 pub first-here : (t : Bool × ℕ) (ts : Tests) → t .0 ≡ true → firstTrue (t ∷ ts) ≡ t .1
@@ -127,12 +126,8 @@ first-none = refl
 pub first-stops : (ts us : Tests) → (firstTrue ts ≡ 0 → ⊥) → firstTrue (ts ++ us) ≡ firstTrue ts
 unfolding firstTrue
 first-stops [] us d = absurd (d refl)
-first-stops (t ∷ ts) us d = go (t .0) d (first-stops ts us)
-  where
-    go : (b : Bool) → (cond b (t .1) (firstTrue ts) ≡ 0 → ⊥) → ((firstTrue ts ≡ 0 → ⊥) → firstTrue (ts ++ us) ≡ firstTrue ts)
-        → cond b (t .1) (firstTrue (ts ++ us)) ≡ cond b (t .1) (firstTrue ts)
-    go true d rest = refl
-    go false d rest = rest d
+first-stops ((true, k) ∷ ts) us d = refl
+first-stops ((false, k) ∷ ts) us d = first-stops ts us d
 
 -- no test gives 0
 abbrev pub Refusing : Tests → Type 0
@@ -142,9 +137,5 @@ Refusing (t ∷ ts) = (0 < t .1) × Refusing ts
 pub first-passes : (ts us : Tests) → Refusing ts → firstTrue ts ≡ 0 → firstTrue (ts ++ us) ≡ firstTrue us
 unfolding firstTrue
 first-passes [] us h e = refl
-first-passes (t ∷ ts) us h e = go (t .0) e (first-passes ts us (h .1))
-  where
-    go : (b : Bool) → cond b (t .1) (firstTrue ts) ≡ 0 → (firstTrue ts ≡ 0 → firstTrue (ts ++ us) ≡ firstTrue us)
-        → cond b (t .1) (firstTrue (ts ++ us)) ≡ firstTrue us
-    go true e rest = absurd (omega (arith, h .0))
-    go false e rest = rest e
+first-passes ((true, k) ∷ ts) us h e = absurd (omega (arith, h .0))
+first-passes ((false, k) ∷ ts) us h e = first-passes ts us (h .1) e

@@ -1,7 +1,7 @@
 -- A sheet without a cycle whose counts satisfy the recurrence modulo 2 ^ 64 is valid, and a valid sheet's counts satisfy it. A valid
 -- sheet is known by its rows. A call that wants a valid sheet has one where it finds nothing, and finds nothing on one. Assumes nothing.
-use mathlib.Core.Path.{_≡_, sym, ap, subst, _∙_}
-use mathlib.Core.Logic.{inr, _↔_}
+use mathlib.Core.Path.{_≡_, refl, sym, ap, subst, _∙_}
+use mathlib.Core.Logic.{inl, inr, _↔_}
 use mathlib.Core.List.{List, _∷_}
 use Prim.Native.Nat.{ℕ, _+_, _*_, _%_, _^_, _≤_, _<_}
 use native.Mathlib.Nat.{mod-mod, mod-lt, mod-eq-of-lt}
@@ -23,8 +23,8 @@ use Rattle.sheet.specs.Layout.{Shape, rowAt, countAt, edgeAt}
 use Rattle.sheet.specs.Conditions.{StrayRow}
 use Rattle.sheet.specs.Valid.{Valid, validConditions}
 use Rattle.sheet.specs.Internal.{successorsSum, RowHolds}
-use Rattle.sheet.proofs.TableLaws.{first-past}
-use Rattle.sheet.proofs.ShapeLaws.{shape-not, shape-passed}
+use Rattle.sheet.proofs.TableLaws.{first-past, first-rest}
+use Rattle.sheet.proofs.ShapeLaws.{shape-not, shape-passed, shape-rest}
 use Rattle.sheet.proofs.LayoutLaws.{sheet-ext}
 
 pub edge-le : (s : List ℕ) (i j : ℕ) → edgeAt s i j ≤ 1
@@ -39,7 +39,7 @@ module _ (n : ℕ) (s : List ℕ) (high : n ≤ 64) (acyclic : Acyclic n (edgeAt
   paths-fit i j hi hj = mod-eq-of-lt (paths-below n (edgeAt s) acyclic high i j _ hi hj (paths-exactly i j hi))
 
   -- counts that satisfy the recurrence are the numbers of paths
-  pub holds-count : ((i : ℕ) → i < n → RowHolds n s i) → (i j : ℕ) → i < n → j < n → countAt n s i j ≡ pathCount n (edgeAt s) i j
+  holds-count : ((i : ℕ) → i < n → RowHolds n s i) → (i j : ℕ) → i < n → j < n → countAt n s i j ≡ pathCount n (edgeAt s) i j
   unfolding successorsSum
   holds-count h i j hi hj =
       sym (mod-eq-of-lt (rw (h i hi j hj) (mod-lt _ (pow-pos 64))))
@@ -47,7 +47,7 @@ module _ (n : ℕ) (s : List ℕ) (high : n ≤ 64) (acyclic : Acyclic n (edgeAt
       ∙ paths-fit i j hi hj
 
   -- and the numbers of paths satisfy it
-  pub count-holds : ((i j : ℕ) → i < n → j < n → countAt n s i j ≡ pathCount n (edgeAt s) i j) → (i : ℕ) → i < n → RowHolds n s i
+  count-holds : ((i j : ℕ) → i < n → j < n → countAt n s i j ≡ pathCount n (edgeAt s) i j) → (i : ℕ) → i < n → RowHolds n s i
   unfolding successorsSum
   count-holds h i hi j hj =
       h i j hi hj
@@ -102,5 +102,13 @@ accepted-valid n s cs f =
     let b = first-past (a .1) in
     valid-stable n s (shape-not n s (a .0) (b .0)) (first-past (b .1) .0)
 
+-- on a sheet of its shape that is not valid the number is 9, whatever comes after
+pub valid-refused : (n : ℕ) (s : List ℕ) → Shape n s → ¬ (Valid n s) → (cs : Conditions) → First (validConditions n s cs) 9
+valid-refused n s h d cs = shape-passed n s h ((¬ (Valid n s)) gives 9 ∷ cs) 9 (inl (d, refl))
+
+-- on a valid one what comes after gives it
 pub valid-passed : (n : ℕ) (s : List ℕ) → Valid n s → (cs : Conditions) (k : ℕ) → First cs k → First (validConditions n s cs) k
 valid-passed n s v cs k f = shape-passed n s (v .shape) ((¬ (Valid n s)) gives 9 ∷ cs) k (inr (λ d. d v, f))
+
+pub valid-rest : (n : ℕ) (s : List ℕ) → Valid n s → (cs : Conditions) (k : ℕ) → First (validConditions n s cs) k → First cs k
+valid-rest n s v cs k f = first-rest (λ d. d v) (shape-rest n s (v .shape) ((¬ (Valid n s)) gives 9 ∷ cs) k f)

@@ -20,11 +20,7 @@ delta-diff (suc i) zero h = refl
 delta-diff (suc i) (suc j) h = delta-diff i j (λ e. h (ap suc e))
 
 pub delta-comm : (i j : ℕ) → delta i j ≡ delta j i
-unfolding delta
-delta-comm zero zero = refl
-delta-comm zero (suc j) = refl
-delta-comm (suc i) zero = refl
-delta-comm (suc i) (suc j) = delta-comm i j
+delta-comm i j = elim (ℕ-discrete i j) [ yes e ↦ rw e | no d ↦ delta-diff i j d ∙ sym (delta-diff j i (λ e. d (sym e))) ]
 
 -- ---- laws of sums
 
@@ -43,25 +39,20 @@ unfolding sum
 sum-const zero c = sym (zero-mul c)
 sum-const (suc n) c = ap (λ (x : ℕ). x + c) (sum-const n c) ∙ sym (suc-mul n c)
 
-pub sum-zero : (n : ℕ) → sum n (λ _. 0) ≡ 0
-sum-zero n = sum-const n 0 ∙ mul-zero n
-
 pub sum-all-zero : (n : ℕ) (f : ℕ → ℕ) → ((i : ℕ) → i < n → f i ≡ 0) → sum n f ≡ 0
-sum-all-zero n f h = sum-cong n f (λ _. 0) h ∙ sum-zero n
+sum-all-zero n f h = sum-cong n f (λ _. 0) h ∙ sum-const n 0 ∙ mul-zero n
 
 pub mul-sum : (n c : ℕ) (f : ℕ → ℕ) → c * sum n f ≡ sum n (λ i. c * f i)
 unfolding sum
 mul-sum zero c f = mul-zero c
 mul-sum (suc n) c f = rw (mul-add, mul-sum n c f)
 
-pub sum-mul : (n c : ℕ) (f : ℕ → ℕ) → sum n f * c ≡ sum n (λ i. f i * c)
-unfolding sum
-sum-mul zero c f = zero-mul c
-sum-mul (suc n) c f = rw (add-mul, sum-mul n c f)
+sum-mul : (n c : ℕ) (f : ℕ → ℕ) → sum n f * c ≡ sum n (λ i. f i * c)
+sum-mul n c f = mul-comm (sum n f) c ∙ mul-sum n c f ∙ sum-cong n _ _ (λ i p. mul-comm c (f i))
 
 pub sum-swap : (n m : ℕ) (f : ℕ → ℕ → ℕ) → sum n (λ i. sum m (λ j. f i j)) ≡ sum m (λ j. sum n (λ i. f i j))
 unfolding sum
-sum-swap zero m f = sym (sum-zero m)
+sum-swap zero m f = sym (sum-all-zero m _ (λ j p. refl))
 sum-swap (suc n) m f = ap (λ x. x + sum m (f n)) (sum-swap n m f) ∙ sym (sum-add m (λ j. sum n (λ i. f i j)) (f n))
 
 -- a longer sum is no less, and is the same where the terms between are 0
@@ -101,7 +92,7 @@ sum-mono (suc n) f g h = add-le-add (sum-mono n f g (λ i p. h i (le-step p))) (
 
 -- ---- the sum against `delta` picks one term
 
-pub sum-none : (n v : ℕ) (f : ℕ → ℕ) → n ≤ v → sum n (λ i. delta i v * f i) ≡ 0
+sum-none : (n v : ℕ) (f : ℕ → ℕ) → n ≤ v → sum n (λ i. delta i v * f i) ≡ 0
 sum-none n v f h = sum-all-zero n (λ i. delta i v * f i) (λ i p. rw (delta-diff i v (omega arith)) (zero-mul (f i)))
 
 pub sum-pick : (n v : ℕ) (f : ℕ → ℕ) → v < n → sum n (λ i. delta i v * f i) ≡ f v

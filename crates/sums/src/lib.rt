@@ -1,1 +1,1 @@
-// Theory only: finite sums and remainders. There is no function here; `specs/` has the definitions and `proofs/` their laws.
+// Theory only: finite sums, remainders, and lists put one after the other. There is no function here; `specs/` has the definitions and `proofs/` their laws.

@@ -5,7 +5,7 @@ use mathlib.Core.List.{List, [], _++_, append-assoc}
 use Prim.Native.Nat.{ℕ, suc, _+_, _≤_, _<_}
 use native.Mathlib.Omega.{arith}
 use lib.ListN.{length, getD, set, take, drop, length-append}
-use lib.Seq.{length-take-le, paste, paste-zero, paste-suc, length-paste, take-paste, drop-paste, take-length, drop-drop}
+use lib.Seq.{take-append-seam, drop-append-seam, length-take-le, paste, paste-zero, paste-suc, length-paste, take-paste, drop-paste, take-length, drop-drop}
 use Rattle.sums.specs.Gather.{gather}
 use Rattle.sums.proofs.GatherLaws.{gather-none, gather-more, gather-room}
 use Rattle.text.specs.Text.{pasted, Put, written}
@@ -69,27 +69,36 @@ module _ (b buffer l : List ℕ) (r : ℕ) (count : r ≡ length b) (bytes : l �
   pub written-front : r ≡ length (take r l)
   written-front = sym (length-take-le r l written-within)
 
+-- bytes in the first places: as many as they are stand there, and those after them are as they were
+pub written-first : (b buffer : List ℕ) → take (length b) (written b buffer) ≡ b
+written-first b buffer = take-append-seam b (drop (length b) buffer)
+
+pub written-rest : (b buffer : List ℕ) → drop (length b) (written b buffer) ≡ drop (length b) buffer
+written-rest b buffer = drop-append-seam b (drop (length b) buffer)
+
 -- ---- pieces put one after the other
 
--- the first j pieces have been put into a buffer from the place at on, which has made l of it, and r is the place after them
-pub record Pieces (buffer : List ℕ) (at : ℕ) (f : ℕ → List ℕ) (j : ℕ) (l : List ℕ) (r : ℕ) : Type 0 where
+-- of n pieces, for which there is room from the place at on, the first j have been put into a buffer, which has made l of it; r is the place after them
+pub record Pieces (buffer : List ℕ) (at : ℕ) (f : ℕ → List ℕ) (n j : ℕ) (l : List ℕ) (r : ℕ) : Type 0 where
+  pub room : at + length (gather n f) ≤ length buffer
+  pub turns : j ≤ n
   pub long : length l ≡ length buffer
   pub put : Put buffer at (gather j f) l r
 
--- where there is room for n of them
-module _ (buffer : List ℕ) (at : ℕ) (f : ℕ → List ℕ) (n : ℕ) (room : at + length (gather n f) ≤ length buffer) where
-  pub pieces-start : Pieces buffer at f 0 buffer at
-  pieces-start = record { long = refl; put = rw (gather-none f) (put-none buffer at) }
+pub pieces-start : (buffer : List ℕ) (at : ℕ) (f : ℕ → List ℕ) (n : ℕ) → at + length (gather n f) ≤ length buffer → Pieces buffer at f n 0 buffer at
+pieces-start buffer at f n h = record { room = h; turns = omega arith; long = refl; put = rw (gather-none f) (put-none buffer at) }
 
-  module _ (j : ℕ) (l : List ℕ) (r : ℕ) (was : Pieces buffer at f j l r) where
-    pub pieces-room : j < n → r + length (f j) ≤ length l
-    pieces-room h = omega (arith, room, was .long, was .put .place, gather-room j n f h)
+module _ {buffer : List ℕ} {at : ℕ} {f : ℕ → List ℕ} {n j : ℕ} {l : List ℕ} {r : ℕ} (was : Pieces buffer at f n j l r) where
+  pub pieces-room : j < n → r + length (f j) ≤ length l
+  pieces-room h = omega (arith, was .put .place, gather-room j n f h)
 
-    pub pieces-more : j < n → (m : List ℕ) (q : ℕ) → Put l r (f j) m q → Pieces buffer at f (j + 1) m q
-    pieces-more h m q u = record {
-      long = put-length l r (f j) m q u (pieces-room h) ∙ was .long;
-      put = rw (gather-more j f) (put-more buffer at (gather j f) l r (was .put) (f j) m q (omega (arith, room, gather-room j n f h)) u);
-    }
+  pub pieces-more : j < n → {m : List ℕ} {q : ℕ} → Put l r (f j) m q → Pieces buffer at f n (j + 1) m q
+  pieces-more h {m} {q} u = record {
+    room = was .room;
+    turns = omega arith;
+    long = put-length l r (f j) m q u (pieces-room h) ∙ was .long;
+    put = rw (gather-more j f) (put-more buffer at (gather j f) l r (was .put) (f j) m q (omega (arith, gather-room j n f h)) u);
+  }
 
-    pub pieces-done : j ≡ n → Put buffer at (gather n f) l r
-    pieces-done e = rw (← e) (was .put)
+  pub pieces-done : n ≤ j → Put buffer at (gather n f) l r
+  pieces-done h = let e : j ≡ n = omega arith in rw (← e) (was .put)

@@ -29,7 +29,7 @@ sum-differ n j c f g jn e h =
           | no d ↦ rw (delta-diff b j d, zero-mul, add-zero) (h b d)
         ]
 
-pub sum-clear : (n x j : ℕ) (f : ℕ → ℕ) → j < n → sum n (λ b. bit x b * f b) ≡ sum n (λ b. bit (withoutBit x j) b * f b) + bit x j * f j
+sum-clear : (n x j : ℕ) (f : ℕ → ℕ) → j < n → sum n (λ b. bit x b * f b) ≡ sum n (λ b. bit (withoutBit x j) b * f b) + bit x j * f j
 sum-clear n x j f h =
     sum-differ n j (bit x j * f j) (λ b. bit (withoutBit x j) b * f b) (λ b. bit x b * f b) h
     (omega (arith, ap (λ y. y * f j) (bit-clear-same x j)))

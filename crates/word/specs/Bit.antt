@@ -23,7 +23,7 @@ withBit x j = x + (1 - bit x j) * 2 ^ j
 unfoldable pub withoutBit : ℕ → ℕ → ℕ
 withoutBit x j = x - bit x j * 2 ^ j
 
--- the word whose bit j is f j
+-- the word whose bit j, for j below 64, is f j, where each f j is 1 or 0
 unfoldable pub ofBits : (ℕ → ℕ) → ℕ
 ofBits f = sum 64 (λ j. f j * 2 ^ j)
 

@@ -1,3 +1,3 @@
--- The definitions that the contracts of `src/lib.rt` cite. Assumes nothing.
+-- Bits of words, and arithmetic modulo 2 ^ 64. Definitions only. Assumes nothing.
 pub mod Bit
 pub mod Wrap

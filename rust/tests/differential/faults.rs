@@ -4,11 +4,13 @@ use crate::call::{Buffers, Call, Model};
 use crate::cases;
 use crate::compare::{compare, Case};
 use crate::faulty_edits;
+use crate::faulty_masks;
 use crate::faulty_models::{self, ANY};
-use crate::faulty_paths;
 use crate::faulty_plans;
 use crate::faulty_questions;
+use crate::faulty_rank;
 use crate::faulty_records;
+use crate::faulty_unrank;
 use crate::faulty_written;
 use crate::library::{by_c, Lent, Library, Way, BY_C, BY_WRAPPER};
 use crate::listing::LIST;
@@ -52,8 +54,10 @@ fn of_models() -> impl Iterator<Item = (&'static str, &'static str, Model)> {
     let all = [
         faulty_models::FAULTS,
         faulty_edits::FAULTS,
+        faulty_masks::FAULTS,
         faulty_questions::FAULTS,
-        faulty_paths::FAULTS,
+        faulty_unrank::FAULTS,
+        faulty_rank::FAULTS,
         faulty_plans::FAULTS,
         faulty_records::FAULTS,
         faulty_written::FAULTS,
@@ -206,14 +210,14 @@ const ALIKE: &[Alike] = alike! {
     "the counts stay", BOOK, lists::make, faulty_edits::counts_stay;
     "everything is accepted and nothing changes", BOOK, lists::make, faulty_edits::everything_is_accepted;
     "everything is refused", BOOK, lists::make, faulty_edits::everything_is_refused;
-    "a vertex that both masks have is let in", BOOK, lists::make, faulty_edits::shared_vertex_is_let_in;
-    "F × T has insertion's sign", START, lists::make, faulty_edits::with_insertions_sign;
+    "a vertex that both masks have is let in", BOOK, lists::make, faulty_masks::shared_vertex_is_let_in;
+    "F × T has insertion's sign", START, lists::make, faulty_masks::with_insertions_sign;
     "there is always a path without the edge", LIST, questions, faulty_questions::always_yes;
     "the edge runs the other way", LIST, questions, faulty_questions::edge_turned;
-    "there is never a path of that number", LIST, questions, faulty_paths::never_such_a_path;
-    "the highest vertex is tried first", LIST, questions, faulty_paths::highest_first;
-    "the vertex gone to counts too", LIST, questions, faulty_paths::passing_the_next;
-    "the counts are those to the next vertex", LIST, questions, faulty_paths::counting_to_the_next;
+    "there is never a path of that number", LIST, questions, faulty_unrank::never_such_a_path;
+    "the highest vertex is tried first", LIST, questions, faulty_unrank::highest_first;
+    "the vertex gone to counts too", LIST, questions, faulty_rank::passing_the_next;
+    "the counts are those to the next vertex", LIST, questions, faulty_rank::counting_to_the_next;
     "the last edge is left out of a plan", WRITTEN, plan_cases::make, faulty_written::last_edge_left_out;
     "the vertices of a plan are exchanged", WRITTEN, plan_cases::make, faulty_written::vertices_exchanged;
     "the deletions of a plan are made first", UNDONE, plan_cases::make, faulty_records::deletions_first;

@@ -229,6 +229,11 @@ pub fn refusing(n: usize, call: &Call, lent: &mut Buffers, number: u64, rule: im
     })
 }
 
+/// Whether some vertex is there twice.
+pub fn repeats(path: &[u8]) -> bool {
+    (1..path.len()).any(|at| path[..at].contains(&path[at]))
+}
+
 /// The right answer, but what is refused by the first number is refused by the second if told to.
 pub fn renumbered(n: usize, call: &Call, lent: &mut Buffers, (first, second): (u64, u64), told: bool) -> Answer {
     let such = |answer: &Answer| answer.number == first && told;

@@ -10,25 +10,8 @@ returns c = search (call-refused, call-kept)
 returns-2 : tie.Need-returns-2
 returns-2 c = search (call-answered, call-done)
 
-masks-number-requires : tie.Need-masks-number-requires
-masks-number-requires c κs = search needs
-
-refused-requires : tie.Need-refused-requires
-refused-requires c κs = search needs
-
 edit-at-requires : tie.Need-edit-at-requires
 edit-at-requires c κs = search masks-ready
 
-same-length : tie.Need-same-length
-same-length c = search needs
-
 pub edit-edges-at-spec : {M : Type 1} → statement M
-edit-edges-at-spec =
-    tie.close
-    (tie.spec
-    masks-number-requires
-    refused-requires
-    returns
-    edit-at-requires
-    same-length
-    returns-2)
+edit-edges-at-spec = tie.close (tie.spec (λ c κs. search needs) (λ c κs. search needs) returns edit-at-requires (λ c. search needs) returns-2)

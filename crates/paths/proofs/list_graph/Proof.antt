@@ -6,9 +6,6 @@ use borrow.Author.Needs.{needs}
 use Rattle.paths.proofs.list_graph.Statement.{statement}
 use Rattle.paths.proofs.list_graph.Tie as tie
 
-returns : tie.Need-returns
-returns c = search needs
-
 mul-words : tie.Need-mul-words
 mul-words c = omega (arith, square-le (c .before .args .n) (omega arith))
 
@@ -21,20 +18,7 @@ array-borrow-prefix-words c = omega (arith, square-le (c .before .args .n) (omeg
 slice-aggregate-list-in : tie.Need-slice-aggregate-list-in
 slice-aggregate-list-in c = simp length-take (omega (arith, square-le (c .before .before .args .n) (omega arith)))
 
-list-in-requires : tie.Need-list-in-requires
-list-in-requires c κs = search needs
-
-returns-2 : tie.Need-returns-2
-returns-2 c = search needs
-
 pub list-graph-spec : {M : Type 1} → statement M
 list-graph-spec =
     tie.close
-    (tie.spec
-    returns
-    mul-words
-    add-words
-    array-borrow-prefix-words
-    slice-aggregate-list-in
-    list-in-requires
-    returns-2)
+    (tie.spec (λ c. search needs) mul-words add-words array-borrow-prefix-words slice-aggregate-list-in (λ c κs. search needs) (λ c. search needs))

@@ -10,31 +10,12 @@ returns c = search read-stops
 returns-2 : tie.Need-returns-2
 returns-2 c = search read-applied
 
-read-number-requires : tie.Need-read-number-requires
-read-number-requires c κs = search needs
-
-refused-requires : tie.Need-refused-requires
-refused-requires c κs = search needs
-
-same-length : tie.Need-same-length
-same-length c = search needs
-
 apply-all-requires : tie.Need-apply-all-requires
 apply-all-requires c κs =
     let a = c .before .before .before .before .before .before .args in
     read-ready (a .n) (a .sheet .now) (a .plan .now) _ (c .before .before .read-number .ensures) (c .before .if1 .left)
 
-same-length-2 : tie.Need-same-length-2
-same-length-2 c = search needs
-
 pub read-plan-spec : {M : Type 1} → statement M
 read-plan-spec =
     tie.close
-    (tie.spec
-    read-number-requires
-    refused-requires
-    same-length
-    returns
-    apply-all-requires
-    same-length-2
-    returns-2)
+    (tie.spec (λ c κs. search needs) (λ c κs. search needs) (λ c. search needs) returns apply-all-requires (λ c. search needs) returns-2)

@@ -14,12 +14,6 @@ returns-2 c = search write-short
 returns-3 : tie.Need-returns-3
 returns-3 c = search write-whole
 
-sheet-number-requires : tie.Need-sheet-number-requires
-sheet-number-requires c κs = search needs
-
-refused-requires : tie.Need-refused-requires
-refused-requires c κs = search needs
-
 count-set-bits-requires : tie.Need-count-set-bits-requires
 count-set-bits-requires c κs = search write-shape
 
@@ -29,33 +23,14 @@ mul-bytes c =
     let few = write-few (a .n) (a .sheet .now) (a .plan .now) _ (c .before .before .sheet-number .ensures) (c .before .if1 .left) _ (c .count-set-bits .ensures) in
     omega (arith, few)
 
-refused-requires-2 : tie.Need-refused-requires-2
-refused-requires-2 c κs = search needs
-
 write-rows-requires : tie.Need-write-rows-requires
 write-rows-requires c κs =
     let at = c .before .before .before .before in
     let a = at .before .before .before .args in
     write-fits (a .n) (a .sheet .now) (a .plan .now) _ (at .sheet-number .ensures) (c .before .before .before .if1 .left) _ (c .before .before .count-set-bits .ensures) (c .before .if2 .left)
 
-accepted-requires : tie.Need-accepted-requires
-accepted-requires c κs = search needs
-
-same-length : tie.Need-same-length
-same-length c = search needs
-
 pub write-plan-spec : {M : Type 1} → statement M
 write-plan-spec =
     tie.close
-    (tie.spec
-    sheet-number-requires
-    refused-requires
-    returns
-    count-set-bits-requires
-    mul-bytes
-    refused-requires-2
-    returns-2
-    write-rows-requires
-    accepted-requires
-    same-length
-    returns-3)
+    (tie.spec (λ c κs. search needs) (λ c κs. search needs) returns count-set-bits-requires mul-bytes (λ c κs. search needs) returns-2
+    write-rows-requires (λ c κs. search needs) (λ c. search needs) returns-3)

@@ -1,8 +1,8 @@
--- `query::reaches_without` meets its contract: each way out is a law of AnswerLaws or CallLaws. Assumes nothing.
+-- `query::reaches_without` meets its contract: each way out is a law of AnswerLaws or WithoutLaws. Assumes nothing.
 use borrow.Author.Needs.{needs}
 use Rattle.sheet.proofs.AnswerLaws.{answered-refused}
 use Rattle.query.proofs.CheckLaws.{without-ready}
-use Rattle.query.proofs.CallLaws.{without-no, without-yes}
+use Rattle.query_theory.proofs.WithoutLaws.{without-no, without-yes}
 use Rattle.query.proofs.reaches_without.Statement.{statement}
 use Rattle.query.proofs.reaches_without.Tie as tie
 
@@ -15,12 +15,6 @@ returns-2 c = search without-no
 returns-3 : tie.Need-returns-3
 returns-3 c = search without-yes
 
-without-number-requires : tie.Need-without-number-requires
-without-number-requires c κs = search needs
-
-refused-requires : tie.Need-refused-requires
-refused-requires c κs = search needs
-
 product-requires : tie.Need-product-requires
 product-requires c κs =
     let a = c .before .before .before .args in
@@ -32,22 +26,8 @@ count-at-requires c κs =
     let r = without-ready (a .n) (a .sheet .now) (a .from) (a .to) (a .edge-from) (a .edge-to) _ (c .before .before .without-number .ensures) (c .before .if1 .left) in
     (r .0, r .1, r .2)
 
-accepted-requires : tie.Need-accepted-requires
-accepted-requires c κs = search needs
-
-accepted-requires-2 : tie.Need-accepted-requires-2
-accepted-requires-2 c κs = search needs
-
 pub reaches-without-spec : {M : Type 1} → statement M
 reaches-without-spec =
     tie.close
-    (tie.spec
-    without-number-requires
-    refused-requires
-    returns
-    product-requires
-    count-at-requires
-    accepted-requires
-    returns-2
-    accepted-requires-2
-    returns-3)
+    (tie.spec (λ c κs. search needs) (λ c κs. search needs) returns product-requires count-at-requires (λ c κs. search needs) returns-2
+    (λ c κs. search needs) returns-3)

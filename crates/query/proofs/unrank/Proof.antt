@@ -28,20 +28,11 @@ returns-3 c =
           high _ (put-written (a .path .now) _ _ _ (c .before .before .before .put .ensures) .1),
     )
 
-walk-number-requires : tie.Need-walk-number-requires
-walk-number-requires c κs = search needs
-
-refused-requires : tie.Need-refused-requires
-refused-requires c κs = search needs
-
 walk-aside-requires : tie.Need-walk-aside-requires
 walk-aside-requires c κs =
     let a = c .before .before .before .before .before .args in
     let r = walk-ready (a .n) (a .sheet .now) (a .from) (a .to) (a .k) (length (a .path .now)) _ (c .before .before .walk-number .ensures) (c .before .if1 .left) in
     (r .0, r .1, r .2, refl)
-
-refused-requires-2 : tie.Need-refused-requires-2
-refused-requires-2 c κs = search needs
 
 array-share-prefix-aside : tie.Need-array-share-prefix-aside
 array-share-prefix-aside c =
@@ -64,25 +55,8 @@ put-requires c κs =
     let r = walk-ready (a .n) (a .sheet .now) (a .from) (a .to) (a .k) (length (a .path .now)) _ (walk .before .before .before .walk-number .ensures) (walk .before .before .if1 .left) in
     omega (arith, aside-taken (walk .walk-aside .ensures) (r .0 .high), walk .walk-aside .ensures .within, r .3)
 
-accepted-requires : tie.Need-accepted-requires
-accepted-requires c κs = search needs
-
-same-length : tie.Need-same-length
-same-length c = search needs
-
 pub unrank-spec : {M : Type 1} → statement M
 unrank-spec =
     tie.close
-    (tie.spec
-    walk-number-requires
-    refused-requires
-    returns
-    walk-aside-requires
-    refused-requires-2
-    returns-2
-    array-share-prefix-aside
-    slice-aggregate-put
-    put-requires
-    accepted-requires
-    same-length
-    returns-3)
+    (tie.spec (λ c κs. search needs) (λ c κs. search needs) returns walk-aside-requires (λ c κs. search needs) returns-2 array-share-prefix-aside
+    slice-aggregate-put put-requires (λ c κs. search needs) (λ c. search needs) returns-3)

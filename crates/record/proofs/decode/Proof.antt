@@ -26,81 +26,19 @@ returns-5 c = search decode-letter
 returns-6 : tie.Need-returns-6
 returns-6 c = search decode-other
 
-shared-slice-read-if2 : tie.Need-shared-slice-read-if2
-shared-slice-read-if2 c = search needs
-
-shared-slice-read-if3 : tie.Need-shared-slice-read-if3
-shared-slice-read-if3 c = search needs
-
-shared-slice-read-if4 : tie.Need-shared-slice-read-if4
-shared-slice-read-if4 c = search needs
-
-shared-slice-read-are-digits : tie.Need-shared-slice-read-are-digits
-shared-slice-read-are-digits c = search needs
-
-shared-slice-read-are-digits-2 : tie.Need-shared-slice-read-are-digits-2
-shared-slice-read-are-digits-2 c = search needs
-
-are-digits-requires : tie.Need-are-digits-requires
-are-digits-requires c κs = search needs
-
-shared-slice-read-are-digits-3 : tie.Need-shared-slice-read-are-digits-3
-shared-slice-read-are-digits-3 c = search needs
-
-shared-slice-read-are-digits-4 : tie.Need-shared-slice-read-are-digits-4
-shared-slice-read-are-digits-4 c = search needs
-
-are-digits-requires-2 : tie.Need-are-digits-requires-2
-are-digits-requires-2 c κs = search needs
-
-shared-slice-read-number : tie.Need-shared-slice-read-number
-shared-slice-read-number c = search needs
-
-shared-slice-read-number-2 : tie.Need-shared-slice-read-number-2
-shared-slice-read-number-2 c = search needs
-
 number-requires : tie.Need-number-requires
 number-requires c κs =
     let from = c .before .before .before .before .before .before in
     digits-hold _ _ _ (from .before .are-digits .ensures) (from .if5 .left)
-
-shared-slice-read-number-3 : tie.Need-shared-slice-read-number-3
-shared-slice-read-number-3 c = search needs
-
-shared-slice-read-number-4 : tie.Need-shared-slice-read-number-4
-shared-slice-read-number-4 c = search needs
 
 number-requires-2 : tie.Need-number-requires-2
 number-requires-2 c κs =
     let to = c .before .before .before .before .before in
     digits-hold _ _ _ (to .before .are-digits2 .ensures) (to .if6 .left)
 
-shared-slice-read-letter : tie.Need-shared-slice-read-letter
-shared-slice-read-letter c = search needs
-
 pub decode-spec : {M : Type 1} → statement M
 decode-spec =
     tie.close
-    (tie.spec
-    returns
-    shared-slice-read-if2
-    shared-slice-read-if3
-    shared-slice-read-if4
-    returns-2
-    shared-slice-read-are-digits
-    shared-slice-read-are-digits-2
-    are-digits-requires
-    shared-slice-read-are-digits-3
-    shared-slice-read-are-digits-4
-    are-digits-requires-2
-    returns-3
-    shared-slice-read-number
-    shared-slice-read-number-2
-    number-requires
-    shared-slice-read-number-3
-    shared-slice-read-number-4
-    number-requires-2
-    shared-slice-read-letter
-    returns-4
-    returns-5
-    returns-6)
+    (tie.spec returns (λ c. search needs) (λ c. search needs) (λ c. search needs) returns-2 (λ c. search needs) (λ c. search needs)
+    (λ c κs. search needs) (λ c. search needs) (λ c. search needs) (λ c κs. search needs) returns-3 (λ c. search needs) (λ c. search needs)
+    number-requires (λ c. search needs) (λ c. search needs) number-requires-2 (λ c. search needs) returns-4 returns-5 returns-6)

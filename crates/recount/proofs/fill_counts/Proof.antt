@@ -16,24 +16,12 @@ abbrev μ-loop : tie.MeasureT-loop
 loop-holds : tie.Need-loop-holds Inv-loop μ-loop
 loop-holds c = let a = c .before in (omega arith, filled-start _ _ _ (a .pre .2) (a .pre .0))
 
-mul-fill-row : tie.Need-mul-fill-row Inv-loop μ-loop
-mul-fill-row c = omega arith
-
-element-copy-out-fill-row : tie.Need-element-copy-out-fill-row Inv-loop μ-loop
-element-copy-out-fill-row c = omega arith
-
 fill-row-requires : tie.Need-fill-row-requires Inv-loop μ-loop
 fill-row-requires c κs =
     let a = c .before .before .before .before .before in
     let l = c .before .before .before .loop in
     let v = filled-vertex _ _ _ (a .pre .2) (a .pre .0) (l .k) (omega arith) in
     (filled-shape _ _ _ (a .pre .2) (a .pre .0) _ _ (l .inv .1), v, filled-below _ _ _ (a .pre .2) (a .pre .0) _ _ (l .inv .1) (a .pre .1) _ v)
-
-add-k : tie.Need-add-k Inv-loop μ-loop
-add-k c = omega arith
-
-loop-less : tie.Need-loop-less Inv-loop μ-loop
-loop-less c = omega arith
 
 loop-again : tie.Need-loop-again Inv-loop μ-loop
 loop-again c =
@@ -50,15 +38,5 @@ returns c = let a = c .before .before .before in filled-all _ _ _ (a .pre .2) (a
 pub fill-counts-spec : {M : Type 1} → statement M
 fill-counts-spec =
     tie.close
-    (tie.spec
-    Inv-loop
-    μ-loop
-    loop-holds
-    mul-fill-row
-    element-copy-out-fill-row
-    fill-row-requires
-    add-k
-    loop-less
-    loop-again
-    same-length
-    returns)
+    (tie.spec Inv-loop μ-loop loop-holds (λ c. omega arith) (λ c. omega arith) fill-row-requires (λ c. omega arith) (λ c. omega arith) loop-again
+    same-length returns)

@@ -6,9 +6,6 @@ use Rattle.recount.proofs.ValidateLaws.{valid-stray, valid-cycle, valid
 use Rattle.recount.proofs.is_valid.Statement.{statement}
 use Rattle.recount.proofs.is_valid.Tie as tie
 
-has-stray-row-requires : tie.Need-has-stray-row-requires
-has-stray-row-requires c κs = search needs
-
 returns : tie.Need-returns
 returns c = search valid-stray
 
@@ -25,12 +22,4 @@ returns-3 : tie.Need-returns-3
 returns-3 c = search (valid-holds, not-false)
 
 pub is-valid-spec : {M : Type 1} → statement M
-is-valid-spec =
-    tie.close
-    (tie.spec
-    has-stray-row-requires
-    returns
-    find-order-requires
-    returns-2
-    rows-hold-requires
-    returns-3)
+is-valid-spec = tie.close (tie.spec (λ c κs. search needs) returns find-order-requires returns-2 rows-hold-requires returns-3)

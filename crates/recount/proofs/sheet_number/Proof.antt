@@ -15,11 +15,8 @@ returns-2 c = search (sheet-not-valid, not-true)
 returns-3 : tie.Need-returns-3
 returns-3 c = search (sheet-valid, not-false)
 
-shape-number-requires : tie.Need-shape-number-requires
-shape-number-requires c κs = search needs
-
 is-valid-requires : tie.Need-is-valid-requires
 is-valid-requires c κs = search shape-of
 
 pub sheet-number-spec : {M : Type 1} → statement M
-sheet-number-spec = tie.close (tie.spec shape-number-requires returns is-valid-requires returns-2 returns-3)
+sheet-number-spec = tie.close (tie.spec (λ c κs. search needs) returns is-valid-requires returns-2 returns-3)

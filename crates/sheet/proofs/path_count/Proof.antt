@@ -11,19 +11,10 @@ returns c = search answered-refused
 returns-2 : tie.Need-returns-2
 returns-2 c = search path-count-accepted
 
-vertices-number-requires : tie.Need-vertices-number-requires
-vertices-number-requires c κs = search needs
-
-refused-requires : tie.Need-refused-requires
-refused-requires c κs = search needs
-
 count-at-requires : tie.Need-count-at-requires
 count-at-requires c κs =
     let a = c .before .before .before .args in
     vertices-ready (a .n) (a .sheet .now) (a .from) (a .to) _ (c .before .vertices-number .ensures) (c .if1 .left)
 
-accepted-requires : tie.Need-accepted-requires
-accepted-requires c κs = search needs
-
 pub path-count-spec : {M : Type 1} → statement M
-path-count-spec = tie.close (tie.spec vertices-number-requires refused-requires returns count-at-requires accepted-requires returns-2)
+path-count-spec = tie.close (tie.spec (λ c κs. search needs) (λ c κs. search needs) returns count-at-requires (λ c κs. search needs) returns-2)

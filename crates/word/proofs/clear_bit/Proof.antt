@@ -4,11 +4,8 @@ use Rattle.word.proofs.MaskLaws.{one-shl, and-not-pow}
 use Rattle.word.proofs.clear_bit.Statement.{statement}
 use Rattle.word.proofs.clear_bit.Tie as tie
 
-shl-result : tie.Need-shl-result
-shl-result c = search needs
-
 returns : tie.Need-returns
 returns c = rw (one-shl (c .args .j) (c .pre)) (and-not-pow 64 (c .args .row) (c .args .j) (c .fits .row .fits) (c .pre))
 
 pub clear-bit-spec : {M : Type 1} → statement M
-clear-bit-spec = tie.close (tie.spec shl-result returns)
+clear-bit-spec = tie.close (tie.spec (λ c. search needs) returns)

@@ -11,9 +11,6 @@ use Rattle.word.proofs.low_bits.Tie as tie
 returns : tie.Need-returns
 returns c = let e : 64 ≡ c .before .args .n = omega arith in ap (λ n. 2 ^ n - 1) e
 
-shl-result : tie.Need-shl-result
-shl-result c = search needs
-
 sub-result : tie.Need-sub-result
 sub-result c = rw (one-shl (c .before .args .n) (omega arith)) (pow-pos (c .before .args .n))
 
@@ -21,4 +18,4 @@ returns-2 : tie.Need-returns-2
 returns-2 c = rw (one-shl (c .before .args .n) (omega arith))
 
 pub low-bits-spec : {M : Type 1} → statement M
-low-bits-spec = tie.close (tie.spec returns shl-result sub-result returns-2)
+low-bits-spec = tie.close (tie.spec returns (λ c. search needs) sub-result returns-2)

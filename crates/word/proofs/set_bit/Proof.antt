@@ -4,11 +4,8 @@ use Rattle.word.proofs.MaskLaws.{one-shl, or-pow}
 use Rattle.word.proofs.set_bit.Statement.{statement}
 use Rattle.word.proofs.set_bit.Tie as tie
 
-shl-result : tie.Need-shl-result
-shl-result c = search needs
-
 returns : tie.Need-returns
 returns c = rw (one-shl (c .args .j) (c .pre)) (or-pow (c .args .row) (c .args .j))
 
 pub set-bit-spec : {M : Type 1} → statement M
-set-bit-spec = tie.close (tie.spec shl-result returns)
+set-bit-spec = tie.close (tie.spec (λ c. search needs) returns)

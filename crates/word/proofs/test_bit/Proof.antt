@@ -7,11 +7,8 @@ use borrow.Author.Needs.{needs}
 use Rattle.word.proofs.test_bit.Statement.{statement}
 use Rattle.word.proofs.test_bit.Tie as tie
 
-shr-result : tie.Need-shr-result
-shr-result c = search needs
-
 returns : tie.Need-returns
 returns c = ap (λ x. eqb x 1) (and-mask (c .args .row / 2 ^ c .args .j) 1)
 
 pub test-bit-spec : {M : Type 1} → statement M
-test-bit-spec = tie.close (tie.spec shr-result returns)
+test-bit-spec = tie.close (tie.spec (λ c. search needs) returns)

@@ -7,11 +7,8 @@ use Rattle.word.proofs.within.Tie as tie
 returns : tie.Need-returns
 returns c = word-below (c .before .args .n) (c .before .args .row) (c .if1 .taken) (c .before .fits .row .fits)
 
-shr-result : tie.Need-shr-result
-shr-result c = search needs
-
 returns-2 : tie.Need-returns-2
 returns-2 c = shr-none (c .before .args .n) (c .before .args .row)
 
 pub within-spec : {M : Type 1} → statement M
-within-spec = tie.close (tie.spec returns shr-result returns-2)
+within-spec = tie.close (tie.spec returns (λ c. search needs) returns-2)

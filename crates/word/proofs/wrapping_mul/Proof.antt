@@ -28,14 +28,8 @@ mul-wrapping-add-u64 c = search halves
 mul-wrapping-add-u64-2 : tie.Need-mul-wrapping-add-u64-2
 mul-wrapping-add-u64-2 c = search halves
 
-wrapping-add-u64-requires : tie.Need-wrapping-add-u64-requires
-wrapping-add-u64-requires c κs = search needs
-
 mul-wrapping-add-u64-3 : tie.Need-mul-wrapping-add-u64-3
 mul-wrapping-add-u64-3 c = search halves
-
-wrapping-add-u64-requires-2 : tie.Need-wrapping-add-u64-requires-2
-wrapping-add-u64-requires-2 c κs = search needs
 
 returns : tie.Need-returns
 returns c =
@@ -45,10 +39,4 @@ returns c =
 pub wrapping-mul-spec : {M : Type 1} → statement M
 wrapping-mul-spec =
     tie.close
-    (tie.spec
-    mul-wrapping-add-u64
-    mul-wrapping-add-u64-2
-    wrapping-add-u64-requires
-    mul-wrapping-add-u64-3
-    wrapping-add-u64-requires-2
-    returns)
+    (tie.spec mul-wrapping-add-u64 mul-wrapping-add-u64-2 (λ c κs. search needs) mul-wrapping-add-u64-3 (λ c κs. search needs) returns)

@@ -4,11 +4,8 @@ use Rattle.word.proofs.WrapLaws.{minus-only}
 use Rattle.word.proofs.wrapping_sub.Statement.{statement}
 use Rattle.word.proofs.wrapping_sub.Tie as tie
 
-wrapping-sub-u64-requires : tie.Need-wrapping-sub-u64-requires
-wrapping-sub-u64-requires c κs = search needs
-
 returns : tie.Need-returns
 returns c = search minus-only
 
 pub wrapping-sub-spec : {M : Type 1} → statement M
-wrapping-sub-spec = tie.close (tie.spec wrapping-sub-u64-requires returns)
+wrapping-sub-spec = tie.close (tie.spec (λ c κs. search needs) returns)

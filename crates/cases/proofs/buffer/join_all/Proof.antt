@@ -14,41 +14,11 @@ Inv-loop buffer₀ row₀ i₀ buffer row i = (i ≤ length buffer₀) × (lengt
 abbrev μ-loop : tie.MeasureT-loop
 μ-loop buffer₀ row₀ i₀ buffer row i = length buffer₀ - i
 
-loop-holds : tie.Need-loop-holds Inv-loop μ-loop
-loop-holds c = search needs
-
-mul-buffer : tie.Need-mul-buffer Inv-loop μ-loop
-mul-buffer c = search needs
-
-slice-write-buffer : tie.Need-slice-write-buffer Inv-loop μ-loop
-slice-write-buffer c = search needs
-
-add-i : tie.Need-add-i Inv-loop μ-loop
-add-i c = search needs
-
-loop-less : tie.Need-loop-less Inv-loop μ-loop
-loop-less c = search needs
-
 loop-again : tie.Need-loop-again Inv-loop μ-loop
 loop-again c = (omega arith, simp length-set (omega arith))
-
-same-length : tie.Need-same-length Inv-loop μ-loop
-same-length c = search needs
-
-returns : tie.Need-returns Inv-loop μ-loop
-returns c = search needs
 
 pub join-all-spec : {M : Type 1} → statement M
 join-all-spec =
     tie.close
-    (tie.spec
-    Inv-loop
-    μ-loop
-    loop-holds
-    mul-buffer
-    slice-write-buffer
-    add-i
-    loop-less
-    loop-again
-    same-length
-    returns)
+    (tie.spec Inv-loop μ-loop (λ c. search needs) (λ c. search needs) (λ c. search needs) (λ c. search needs) (λ c. search needs) loop-again
+    (λ c. search needs) (λ c. search needs))

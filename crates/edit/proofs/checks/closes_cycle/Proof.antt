@@ -15,16 +15,10 @@ returns-2 c =
     let s = i .before .before .before .args .sheet .now in
     cycle-out _ s _ _ _ _ (i .before .row-meets .ensures) _ _ (omega arith) (i .if1 .left) (c .before .set-bit .ensures) (c .some-meets .ensures)
 
-row-meets-requires : tie.Need-row-meets-requires
-row-meets-requires c κs = search needs
-
-set-bit-requires : tie.Need-set-bit-requires
-set-bit-requires c κs = search needs
-
 some-meets-requires : tie.Need-some-meets-requires
 some-meets-requires c κs =
     let p = c .before .before .before .before .pre in
     (p .shape, p .successors, rw (c .set-bit .ensures) (set-below _ _ _ (p .vertex) (p .predecessors)))
 
 pub closes-cycle-spec : {M : Type 1} → statement M
-closes-cycle-spec = tie.close (tie.spec row-meets-requires returns set-bit-requires some-meets-requires returns-2)
+closes-cycle-spec = tie.close (tie.spec (λ c κs. search needs) returns (λ c κs. search needs) some-meets-requires returns-2)

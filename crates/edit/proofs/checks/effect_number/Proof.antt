@@ -5,35 +5,20 @@ use Rattle.edit.proofs.CheckLaws.{delete-absent, delete-good, insert-in
 use Rattle.edit.proofs.checks.effect_number.Statement.{statement}
 use Rattle.edit.proofs.checks.effect_number.Tie as tie
 
-some-edge-requires : tie.Need-some-edge-requires
-some-edge-requires c κs = search needs
-
 returns : tie.Need-returns
 returns c = search (delete-absent, not-true)
 
 returns-2 : tie.Need-returns-2
 returns-2 c = search (delete-good, not-true)
 
-test-bit-requires : tie.Need-test-bit-requires
-test-bit-requires c κs = search needs
-
 returns-3 : tie.Need-returns-3
 returns-3 c = search (insert-into, not-false)
-
-test-bit-requires-2 : tie.Need-test-bit-requires-2
-test-bit-requires-2 c κs = search needs
 
 returns-4 : tie.Need-returns-4
 returns-4 c = search (insert-out, not-false)
 
-some-edge-requires-2 : tie.Need-some-edge-requires-2
-some-edge-requires-2 c κs = search needs
-
 returns-5 : tie.Need-returns-5
 returns-5 c = search (insert-present, not-false)
-
-closes-cycle-requires : tie.Need-closes-cycle-requires
-closes-cycle-requires c κs = search needs
 
 returns-6 : tie.Need-returns-6
 returns-6 c = search (insert-cycle, not-false)
@@ -44,16 +29,5 @@ returns-7 c = search (insert-good, not-false)
 pub effect-number-spec : {M : Type 1} → statement M
 effect-number-spec =
     tie.close
-    (tie.spec
-    some-edge-requires
-    returns
-    returns-2
-    test-bit-requires
-    returns-3
-    test-bit-requires-2
-    returns-4
-    some-edge-requires-2
-    returns-5
-    closes-cycle-requires
-    returns-6
-    returns-7)
+    (tie.spec (λ c κs. search needs) returns returns-2 (λ c κs. search needs) returns-3 (λ c κs. search needs) returns-4 (λ c κs. search needs)
+    returns-5 (λ c κs. search needs) returns-6 returns-7)

@@ -15,20 +15,11 @@ Inv-loop n sheet x mask base rest₀ rest = Searching n mask rest (λ (k : ℕ).
 abbrev μ-loop : tie.MeasureT-loop
 μ-loop n sheet x mask base rest₀ rest = rest
 
-row-base-requires : tie.Need-row-base-requires Inv-loop μ-loop
-row-base-requires c κs = omega arith
-
 loop-holds : tie.Need-loop-holds Inv-loop μ-loop
 loop-holds c = searching-start _ _ _ (c .before .before .pre .2)
 
 lowest-bit-requires : tie.Need-lowest-bit-requires Inv-loop μ-loop
 lowest-bit-requires c κs = omega (arith, eqb-false)
-
-add-if1 : tie.Need-add-if1 Inv-loop μ-loop
-add-if1 c = omega arith
-
-mul-if1 : tie.Need-mul-if1 Inv-loop μ-loop
-mul-if1 c = omega arith
 
 shared-slice-read-if1 : tie.Need-shared-slice-read-if1 Inv-loop μ-loop
 shared-slice-read-if1 c =
@@ -42,9 +33,6 @@ returns c =
     let low = c .before .before .lowest-bit in
     searching-found _ _ _ _ _ (l .loop .inv) (low .ensures)
     (count-some _ (a .sheet .now) (a .x) (low .result) _ (l .before .row-base .ensures) (c .if1 .taken))
-
-clear-bit-requires : tie.Need-clear-bit-requires Inv-loop μ-loop
-clear-bit-requires c κs = omega arith
 
 loop-less : tie.Need-loop-less Inv-loop μ-loop
 loop-less c = lowest-cleared-lt _ _ _ (c .before .before .before .lowest-bit .ensures) (c .clear-bit .ensures)
@@ -64,17 +52,5 @@ returns-2 c = searching-done _ _ _ _ (c .before .loop .inv) (omega (arith, eqb-t
 pub row-meets-spec : {M : Type 1} → statement M
 row-meets-spec =
     tie.close
-    (tie.spec
-    Inv-loop
-    μ-loop
-    row-base-requires
-    loop-holds
-    lowest-bit-requires
-    add-if1
-    mul-if1
-    shared-slice-read-if1
-    returns
-    clear-bit-requires
-    loop-less
-    loop-again
-    returns-2)
+    (tie.spec Inv-loop μ-loop (λ c κs. omega arith) loop-holds lowest-bit-requires (λ c. omega arith) (λ c. omega arith) shared-slice-read-if1 returns
+    (λ c κs. omega arith) loop-less loop-again returns-2)

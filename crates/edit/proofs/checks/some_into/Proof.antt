@@ -7,7 +7,7 @@ use borrow.Author.Tests.{eqb-true, eqb-false}
 use Rattle.sheet.specs.Layout.{edgeAt}
 use Rattle.sheet.proofs.TableLaws.{reflects-false}
 use Rattle.word.proofs.CountLaws.{lowest-cleared-lt}
-use Rattle.edit.specs.Edit.{oneIf}
+use Rattle.edit_theory.specs.Edit.{oneIf}
 use Rattle.edit.proofs.SearchLaws.{Searching, searching-start, searching-below, searching-found, searching-more, searching-done}
 use Rattle.edit.proofs.CheckLaws.{clashes-test}
 use Rattle.edit.proofs.checks.some_into.Statement.{statement}
@@ -25,17 +25,8 @@ loop-holds c = searching-start _ _ _ (c .before .pre .2)
 lowest-bit-requires : tie.Need-lowest-bit-requires Inv-loop μ-loop
 lowest-bit-requires c κs = omega (arith, eqb-false)
 
-mul-clashes : tie.Need-mul-clashes Inv-loop μ-loop
-mul-clashes c = omega arith
-
 shared-slice-read-clashes : tie.Need-shared-slice-read-clashes Inv-loop μ-loop
 shared-slice-read-clashes c = omega (arith, searching-below _ _ _ _ _ (c .before .before .before .loop .inv) (c .before .lowest-bit .ensures))
-
-clashes-requires : tie.Need-clashes-requires Inv-loop μ-loop
-clashes-requires c κs = search needs
-
-test-bit-requires : tie.Need-test-bit-requires Inv-loop μ-loop
-test-bit-requires c κs = omega arith
 
 returns : tie.Need-returns Inv-loop μ-loop
 returns c =
@@ -43,9 +34,6 @@ returns c =
     let inserts = l .before .before .before .before .args .inserts in
     searching-found _ _ _ _ _ (l .before .before .loop .inv) (l .lowest-bit .ensures)
     (clashes-test inserts _ _ _ _ (omega arith) (c .before .before .clashes .ensures) (c .before .test-bit .ensures) .holds (c .if1 .taken))
-
-clear-bit-requires : tie.Need-clear-bit-requires Inv-loop μ-loop
-clear-bit-requires c κs = omega arith
 
 loop-less : tie.Need-loop-less Inv-loop μ-loop
 loop-less c = lowest-cleared-lt _ _ _ (c .before .before .before .before .before .lowest-bit .ensures) (c .clear-bit .ensures)
@@ -63,17 +51,5 @@ returns-2 c = searching-done _ _ _ _ (c .before .loop .inv) (omega (arith, eqb-t
 pub some-into-spec : {M : Type 1} → statement M
 some-into-spec =
     tie.close
-    (tie.spec
-    Inv-loop
-    μ-loop
-    loop-holds
-    lowest-bit-requires
-    mul-clashes
-    shared-slice-read-clashes
-    clashes-requires
-    test-bit-requires
-    returns
-    clear-bit-requires
-    loop-less
-    loop-again
-    returns-2)
+    (tie.spec Inv-loop μ-loop loop-holds lowest-bit-requires (λ c. omega arith) shared-slice-read-clashes (λ c κs. search needs) (λ c κs. omega arith)
+    returns (λ c κs. omega arith) loop-less loop-again returns-2)

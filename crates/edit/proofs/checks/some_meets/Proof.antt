@@ -1,4 +1,4 @@
--- `edit::checks::some_meets` meets its contract: a search over the vertices of the mask `from`. Assumes nothing.
+-- `edit::checks::some_meets` meets its contract: a search over the vertices of the mask `starts`. Assumes nothing.
 use native.Mathlib.Omega.{arith}
 use borrow.Author.Tests.{eqb-true, eqb-false}
 use Rattle.sheet.proofs.TableLaws.{reflects-false}
@@ -9,10 +9,10 @@ use Rattle.edit.proofs.checks.some_meets.Statement.{statement}
 use Rattle.edit.proofs.checks.some_meets.Tie as tie
 
 abbrev Inv-loop : tie.InvT-loop
-Inv-loop n sheet from to rest₀ rest = Searching n from rest (Meets n sheet to)
+Inv-loop n sheet starts ends rest₀ rest = Searching n starts rest (Meets n sheet ends)
 
 abbrev μ-loop : tie.MeasureT-loop
-μ-loop n sheet from to rest₀ rest = rest
+μ-loop n sheet starts ends rest₀ rest = rest
 
 loop-holds : tie.Need-loop-holds Inv-loop μ-loop
 loop-holds c = searching-start _ _ _ (c .before .pre .1)
@@ -31,9 +31,6 @@ returns c =
     let l = c .before .before in
     searching-found _ _ _ _ _ (l .before .before .loop .inv) (l .lowest-bit .ensures) (c .before .row-meets .ensures .holds (c .if1 .taken))
 
-clear-bit-requires : tie.Need-clear-bit-requires Inv-loop μ-loop
-clear-bit-requires c κs = omega arith
-
 loop-less : tie.Need-loop-less Inv-loop μ-loop
 loop-less c = lowest-cleared-lt _ _ _ (c .before .before .before .lowest-bit .ensures) (c .clear-bit .ensures)
 
@@ -49,14 +46,4 @@ returns-2 c = searching-done _ _ _ _ (c .before .loop .inv) (omega (arith, eqb-t
 pub some-meets-spec : {M : Type 1} → statement M
 some-meets-spec =
     tie.close
-    (tie.spec
-    Inv-loop
-    μ-loop
-    loop-holds
-    lowest-bit-requires
-    row-meets-requires
-    returns
-    clear-bit-requires
-    loop-less
-    loop-again
-    returns-2)
+    (tie.spec Inv-loop μ-loop loop-holds lowest-bit-requires row-meets-requires returns (λ c κs. omega arith) loop-less loop-again returns-2)

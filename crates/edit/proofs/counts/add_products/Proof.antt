@@ -20,54 +20,6 @@ abbrev μ-loop : tie.MeasureT-loop
 loop-holds : tie.Need-loop-holds Inv-loop μ-loop
 loop-holds c = (omega arith, refl, puts-none _ _ _)
 
-add-wrapping-add : tie.Need-add-wrapping-add Inv-loop μ-loop
-add-wrapping-add c = omega arith
-
-mul-wrapping-add : tie.Need-mul-wrapping-add Inv-loop μ-loop
-mul-wrapping-add c = omega arith
-
-slice-read-wrapping-add : tie.Need-slice-read-wrapping-add Inv-loop μ-loop
-slice-read-wrapping-add c = omega arith
-
-mul-wrapping-mul : tie.Need-mul-wrapping-mul Inv-loop μ-loop
-mul-wrapping-mul c = omega arith
-
-element-copy-out-wrapping-mul : tie.Need-element-copy-out-wrapping-mul Inv-loop μ-loop
-element-copy-out-wrapping-mul c = omega arith
-
-wrapping-mul-requires : tie.Need-wrapping-mul-requires Inv-loop μ-loop
-wrapping-mul-requires c κs = search needs
-
-wrapping-add-requires : tie.Need-wrapping-add-requires Inv-loop μ-loop
-wrapping-add-requires c κs = search needs
-
-mul-wrapping-mul-2 : tie.Need-mul-wrapping-mul-2 Inv-loop μ-loop
-mul-wrapping-mul-2 c = omega arith
-
-element-copy-out-wrapping-mul-2 : tie.Need-element-copy-out-wrapping-mul-2 Inv-loop μ-loop
-element-copy-out-wrapping-mul-2 c = omega arith
-
-wrapping-mul-requires-2 : tie.Need-wrapping-mul-requires-2 Inv-loop μ-loop
-wrapping-mul-requires-2 c κs = search needs
-
-wrapping-add-requires-2 : tie.Need-wrapping-add-requires-2 Inv-loop μ-loop
-wrapping-add-requires-2 c κs = search needs
-
-add-sheet : tie.Need-add-sheet Inv-loop μ-loop
-add-sheet c = omega arith
-
-mul-sheet : tie.Need-mul-sheet Inv-loop μ-loop
-mul-sheet c = omega arith
-
-slice-write-sheet : tie.Need-slice-write-sheet Inv-loop μ-loop
-slice-write-sheet c = omega arith
-
-add-j : tie.Need-add-j Inv-loop μ-loop
-add-j c = omega arith
-
-loop-less : tie.Need-loop-less Inv-loop μ-loop
-loop-less c = omega arith
-
 loop-again : tie.Need-loop-again Inv-loop μ-loop
 loop-again c =
     let at = c .before .before .before .before .before .before .before .before in
@@ -88,26 +40,6 @@ returns c = puts-done _ _ _ _ (c .before .loop .j) _ (c .before .loop .inv .2) (
 pub add-products-spec : {M : Type 1} → statement M
 add-products-spec =
     tie.close
-    (tie.spec
-    Inv-loop
-    μ-loop
-    loop-holds
-    add-wrapping-add
-    mul-wrapping-add
-    slice-read-wrapping-add
-    mul-wrapping-mul
-    element-copy-out-wrapping-mul
-    wrapping-mul-requires
-    wrapping-add-requires
-    mul-wrapping-mul-2
-    element-copy-out-wrapping-mul-2
-    wrapping-mul-requires-2
-    wrapping-add-requires-2
-    add-sheet
-    mul-sheet
-    slice-write-sheet
-    add-j
-    loop-less
-    loop-again
-    same-length
-    returns)
+    (tie.spec Inv-loop μ-loop loop-holds (λ c. omega arith) (λ c. omega arith) (λ c. omega arith) (λ c. omega arith) (λ c. omega arith)
+    (λ c κs. search needs) (λ c κs. search needs) (λ c. omega arith) (λ c. omega arith) (λ c κs. search needs) (λ c κs. search needs)
+    (λ c. omega arith) (λ c. omega arith) (λ c. omega arith) (λ c. omega arith) (λ c. omega arith) loop-again same-length returns)

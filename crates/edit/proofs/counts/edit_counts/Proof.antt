@@ -21,12 +21,6 @@ abbrev μ-loop : tie.MeasureT-loop
 sum-rows-requires : tie.Need-sum-rows-requires Inv-loop μ-loop
 sum-rows-requires c κs = let pre = c .before .before .pre in (pre .shape, pre .successors)
 
-row-base-requires : tie.Need-row-base-requires Inv-loop μ-loop
-row-base-requires c κs = omega arith
-
-signed-sum-requires : tie.Need-signed-sum-requires Inv-loop μ-loop
-signed-sum-requires c κs = omega arith
-
 loop-holds : tie.Need-loop-holds Inv-loop μ-loop
 loop-holds c =
     let base = c .before .before in
@@ -44,12 +38,6 @@ edit-row-requires c κs =
     let ready = l .inv .1 in
     (editing-shape _ _ _ _ _ _ ready _ _ (l .inv .3), omega arith, ready .vertex, ready .predecessors)
 
-add-i : tie.Need-add-i Inv-loop μ-loop
-add-i c = omega arith
-
-loop-less : tie.Need-loop-less Inv-loop μ-loop
-loop-less c = omega arith
-
 loop-again : tie.Need-loop-again Inv-loop μ-loop
 loop-again c =
     let l = c .before .before .before .before .before .before .before .loop in
@@ -65,16 +53,5 @@ returns c = let l = c .before .loop in editing-all _ _ _ _ _ _ (l .inv .1) _ _ (
 pub edit-counts-spec : {M : Type 1} → statement M
 edit-counts-spec =
     tie.close
-    (tie.spec
-    Inv-loop
-    μ-loop
-    sum-rows-requires
-    row-base-requires
-    signed-sum-requires
-    loop-holds
-    edit-row-requires
-    add-i
-    loop-less
-    loop-again
-    same-length
-    returns)
+    (tie.spec Inv-loop μ-loop sum-rows-requires (λ c κs. omega arith) (λ c κs. omega arith) loop-holds edit-row-requires (λ c. omega arith)
+    (λ c. omega arith) loop-again same-length returns)

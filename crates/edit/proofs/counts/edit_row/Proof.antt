@@ -5,30 +5,6 @@ use Rattle.edit.proofs.EditedCounts.{row-edited, row-left}
 use Rattle.edit.proofs.counts.edit_row.Statement.{statement}
 use Rattle.edit.proofs.counts.edit_row.Tie as tie
 
-row-base-requires : tie.Need-row-base-requires
-row-base-requires c κs = search needs
-
-add-x : tie.Need-add-x
-add-x c = search needs
-
-mul-x : tie.Need-mul-x
-mul-x c = search needs
-
-slice-read-x : tie.Need-slice-read-x
-slice-read-x c = search needs
-
-sum-from-requires : tie.Need-sum-from-requires
-sum-from-requires c κs = search needs
-
-signed-requires : tie.Need-signed-requires
-signed-requires c κs = search needs
-
-add-products-requires : tie.Need-add-products-requires
-add-products-requires c κs = search needs
-
-same-length : tie.Need-same-length
-same-length c = search needs
-
 returns : tie.Need-returns
 returns c =
     let last = c .before .before in
@@ -38,9 +14,6 @@ returns c =
     let start = base .before .before in
     row-edited (start .args .inserts) _ _ (start .pre .0) _ _ _ _ _ (base .row-base .ensures) (sum .sum-from .ensures) (start .args .t .now) (start .args .u .now) _ _
     (sign .signed .ensures) (last .add-products .ensures)
-
-same-length-2 : tie.Need-same-length-2
-same-length-2 c = search needs
 
 returns-2 : tie.Need-returns-2
 returns-2 c =
@@ -53,15 +26,5 @@ returns-2 c =
 pub edit-row-spec : {M : Type 1} → statement M
 edit-row-spec =
     tie.close
-    (tie.spec
-    row-base-requires
-    add-x
-    mul-x
-    slice-read-x
-    sum-from-requires
-    signed-requires
-    add-products-requires
-    same-length
-    returns
-    same-length-2
-    returns-2)
+    (tie.spec (λ c κs. search needs) (λ c. search needs) (λ c. search needs) (λ c. search needs) (λ c κs. search needs) (λ c κs. search needs)
+    (λ c κs. search needs) (λ c. search needs) returns (λ c. search needs) returns-2)

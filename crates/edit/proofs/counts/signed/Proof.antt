@@ -7,11 +7,8 @@ use Rattle.edit.proofs.counts.signed.Tie as tie
 returns : tie.Need-returns
 returns c = search signed-insert
 
-wrapping-sub-requires : tie.Need-wrapping-sub-requires
-wrapping-sub-requires c κs = search needs
-
 returns-2 : tie.Need-returns-2
 returns-2 c = search signed-delete
 
 pub signed-spec : {M : Type 1} → statement M
-signed-spec = tie.close (tie.spec returns wrapping-sub-requires returns-2)
+signed-spec = tie.close (tie.spec returns (λ c κs. search needs) returns-2)

@@ -15,9 +15,6 @@ Inv-loop n sheet i mask base sum₀ rest₀ sum rest = Adding n mask rest (count
 abbrev μ-loop : tie.MeasureT-loop
 μ-loop n sheet i mask base sum₀ rest₀ sum rest = rest
 
-row-base-requires : tie.Need-row-base-requires Inv-loop μ-loop
-row-base-requires c κs = omega arith
-
 loop-holds : tie.Need-loop-holds Inv-loop μ-loop
 loop-holds c = adding-start _ _ _ (omega arith)
 
@@ -33,12 +30,6 @@ mul-wrapping-add c = omega (arith, lowest-lt _ _ _ (c .lowest-bit .ensures) (c .
 shared-slice-read-wrapping-add : tie.Need-shared-slice-read-wrapping-add Inv-loop μ-loop
 shared-slice-read-wrapping-add c = omega (arith, lowest-lt _ _ _ (c .before .lowest-bit .ensures) (c .before .before .before .loop .inv .below))
 
-wrapping-add-requires : tie.Need-wrapping-add-requires Inv-loop μ-loop
-wrapping-add-requires c κs = search needs
-
-clear-bit-requires : tie.Need-clear-bit-requires Inv-loop μ-loop
-clear-bit-requires c κs = omega arith
-
 loop-less : tie.Need-loop-less Inv-loop μ-loop
 loop-less c = lowest-cleared-lt _ _ _ (c .before .before .before .lowest-bit .ensures) (c .clear-bit .ensures)
 
@@ -53,17 +44,5 @@ returns c =
 pub sum-from-spec : {M : Type 1} → statement M
 sum-from-spec =
     tie.close
-    (tie.spec
-    Inv-loop
-    μ-loop
-    row-base-requires
-    loop-holds
-    lowest-bit-requires
-    add-wrapping-add
-    mul-wrapping-add
-    shared-slice-read-wrapping-add
-    wrapping-add-requires
-    clear-bit-requires
-    loop-less
-    loop-again
-    returns)
+    (tie.spec Inv-loop μ-loop (λ c κs. omega arith) loop-holds lowest-bit-requires add-wrapping-add mul-wrapping-add shared-slice-read-wrapping-add
+    (λ c κs. search needs) (λ c κs. omega arith) loop-less loop-again returns)

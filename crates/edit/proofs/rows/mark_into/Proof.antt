@@ -26,9 +26,6 @@ mul-mark c = record { fits = omega arith }
 slice-read-mark : tie.Need-slice-read-mark Inv-loop μ-loop
 slice-read-mark c = let l = c .before .before .before .loop in omega (arith, lowest-lt _ _ _ (c .before .lowest-bit .ensures) (l .inv .below), l .inv .long)
 
-shl-mark : tie.Need-shl-mark Inv-loop μ-loop
-shl-mark c = omega arith
-
 mark-requires : tie.Need-mark-requires Inv-loop μ-loop
 mark-requires c κs = tt
 
@@ -37,9 +34,6 @@ mul-sheet c = record { fits = omega arith }
 
 slice-write-sheet : tie.Need-slice-write-sheet Inv-loop μ-loop
 slice-write-sheet c = let l = c .before .before .before .before .loop in omega (arith, lowest-lt _ _ _ (c .before .before .lowest-bit .ensures) (l .inv .below), l .inv .long)
-
-clear-bit-requires : tie.Need-clear-bit-requires Inv-loop μ-loop
-clear-bit-requires c κs = omega arith
 
 loop-less : tie.Need-loop-less Inv-loop μ-loop
 loop-less c = lowest-cleared-lt _ _ _ (c .before .before .before .lowest-bit .ensures) (c .clear-bit .ensures)
@@ -62,19 +56,5 @@ returns c = marking-done _ _ _ _ _ _ (c .before .loop .rest) (c .before .loop .i
 pub mark-into-spec : {M : Type 1} → statement M
 mark-into-spec =
     tie.close
-    (tie.spec
-    Inv-loop
-    μ-loop
-    loop-holds
-    lowest-bit-requires
-    mul-mark
-    slice-read-mark
-    shl-mark
-    mark-requires
-    mul-sheet
-    slice-write-sheet
-    clear-bit-requires
-    loop-less
-    loop-again
-    same-length
-    returns)
+    (tie.spec Inv-loop μ-loop loop-holds lowest-bit-requires mul-mark slice-read-mark (λ c. omega arith) mark-requires mul-sheet slice-write-sheet
+    (λ c κs. omega arith) loop-less loop-again same-length returns)

@@ -10,33 +10,8 @@ Inv-loop n sheet from to₀ to = to ≤ n
 abbrev μ-loop : tie.MeasureT-loop
 μ-loop n sheet from to₀ to = n - to
 
-loop-holds : tie.Need-loop-holds Inv-loop μ-loop
-loop-holds c = search needs
-
-paths-between-requires : tie.Need-paths-between-requires Inv-loop μ-loop
-paths-between-requires c κs = search needs
-
-add-to : tie.Need-add-to Inv-loop μ-loop
-add-to c = search needs
-
-loop-less : tie.Need-loop-less Inv-loop μ-loop
-loop-less c = search needs
-
-loop-again : tie.Need-loop-again Inv-loop μ-loop
-loop-again c = search needs
-
-returns : tie.Need-returns Inv-loop μ-loop
-returns c = search needs
-
 pub paths-from-spec : {M : Type 1} → statement M
 paths-from-spec =
     tie.close
-    (tie.spec
-    Inv-loop
-    μ-loop
-    loop-holds
-    paths-between-requires
-    add-to
-    loop-less
-    loop-again
-    returns)
+    (tie.spec Inv-loop μ-loop (λ c. search needs) (λ c κs. search needs) (λ c. search needs) (λ c. search needs) (λ c. search needs)
+    (λ c. search needs))

@@ -26,29 +26,11 @@ returns c = search applying-end
 returns-2 : tie.Need-returns-2 Inv-loop μ-loop
 returns-2 c = search applying-refused
 
-read-record-requires : tie.Need-read-record-requires Inv-loop μ-loop
-read-record-requires c κs = search needs
-
-enum-known-record : tie.Need-enum-known-record Inv-loop μ-loop
-enum-known-record c = search needs
-
-enum-told : tie.Need-enum-told Inv-loop μ-loop
-enum-told c = search needs
-
-accepted-requires : tie.Need-accepted-requires Inv-loop μ-loop
-accepted-requires c κs = search needs
-
 same-length : tie.Need-same-length Inv-loop μ-loop
 same-length c = c .before .before .before .before .loop .inv .0
 
-apply-record-requires : tie.Need-apply-record-requires Inv-loop μ-loop
-apply-record-requires c κs = search needs
-
 add-t13 : tie.Need-add-t13 Inv-loop μ-loop
 add-t13 c = omega (arith, c .before .before .before .before .before .before .before .before .before .loop .inv .1 .within)
-
-same-length-2 : tie.Need-same-length-2 Inv-loop μ-loop
-same-length-2 c = search needs
 
 loop-less : tie.Need-loop-less Inv-loop μ-loop
 loop-less c = search applying-less
@@ -56,19 +38,5 @@ loop-less c = search applying-less
 pub apply-spec : {M : Type 1} → statement M
 apply-spec =
     tie.close
-    (tie.spec
-    Inv-loop
-    μ-loop
-    loop-holds
-    read-record-requires
-    enum-known-record
-    enum-told
-    accepted-requires
-    same-length
-    returns
-    apply-record-requires
-    add-t13
-    same-length-2
-    returns-2
-    loop-less
-    loop-again)
+    (tie.spec Inv-loop μ-loop loop-holds (λ c κs. search needs) (λ c. search needs) (λ c. search needs) (λ c κs. search needs) same-length returns
+    (λ c κs. search needs) add-t13 (λ c. search needs) returns-2 loop-less loop-again)

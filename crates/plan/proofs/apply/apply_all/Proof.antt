@@ -17,19 +17,10 @@ returns c =
 returns-2 : tie.Need-returns-2
 returns-2 c = search all-accepted
 
-slice-aggregate-copy : tie.Need-slice-aggregate-copy
-slice-aggregate-copy c = search needs
-
 copy-requires : tie.Need-copy-requires
 copy-requires c κs =
     let l = sheet-long _ _ (c .before .before .before .before .pre .0) in
     (omega arith, l)
-
-apply-requires : tie.Need-apply-requires
-apply-requires c κs = search needs
-
-slice-aggregate-copy-2 : tie.Need-slice-aggregate-copy-2
-slice-aggregate-copy-2 c = search needs
 
 copy-requires-2 : tie.Need-copy-requires-2
 copy-requires-2 c κs =
@@ -37,30 +28,8 @@ copy-requires-2 c κs =
     let l = sheet-long _ _ (start .pre .0) in
     (omega (arith, l), omega arith)
 
-same-length : tie.Need-same-length
-same-length c = search needs
-
-count-set-bits-requires : tie.Need-count-set-bits-requires
-count-set-bits-requires c κs = search needs
-
-accepted-requires : tie.Need-accepted-requires
-accepted-requires c κs = search needs
-
-same-length-2 : tie.Need-same-length-2
-same-length-2 c = search needs
-
 pub apply-all-spec : {M : Type 1} → statement M
 apply-all-spec =
     tie.close
-    (tie.spec
-    slice-aggregate-copy
-    copy-requires
-    apply-requires
-    slice-aggregate-copy-2
-    copy-requires-2
-    same-length
-    returns
-    count-set-bits-requires
-    accepted-requires
-    same-length-2
-    returns-2)
+    (tie.spec (λ c. search needs) copy-requires (λ c κs. search needs) (λ c. search needs) copy-requires-2 (λ c. search needs) returns
+    (λ c κs. search needs) (λ c κs. search needs) (λ c. search needs) returns-2)

@@ -14,38 +14,8 @@ returns-2 c = search (record-edge false, left-edge false)
 returns-3 : tie.Need-returns-3
 returns-3 c = search (record-malformed, left-malformed)
 
-enum-known-record : tie.Need-enum-known-record
-enum-known-record c = search needs
-
-insert-edge-requires : tie.Need-insert-edge-requires
-insert-edge-requires c κs = search needs
-
-enum-known-record-2 : tie.Need-enum-known-record-2
-enum-known-record-2 c = search needs
-
-delete-edge-requires : tie.Need-delete-edge-requires
-delete-edge-requires c κs = search needs
-
-enum-told : tie.Need-enum-told
-enum-told c = search needs
-
-same-length : tie.Need-same-length
-same-length c = search needs
-
-same-length-2 : tie.Need-same-length-2
-same-length-2 c = search needs
-
 pub apply-record-spec : {M : Type 1} → statement M
 apply-record-spec =
     tie.close
-    (tie.spec
-    enum-known-record
-    insert-edge-requires
-    enum-known-record-2
-    delete-edge-requires
-    enum-told
-    same-length
-    returns
-    same-length-2
-    returns-2
-    returns-3)
+    (tie.spec (λ c. search needs) (λ c κs. search needs) (λ c. search needs) (λ c κs. search needs) (λ c. search needs) (λ c. search needs) returns
+    (λ c. search needs) returns-2 returns-3)

@@ -33,40 +33,11 @@ returns c =
     let e : at .loop .k ≡ at .before .args .count = omega arith in
     rw (← e) (at .loop .inv .2)
 
-mul-to : tie.Need-mul-to Inv-loop μ-loop
-mul-to c = search needs
-
-shared-slice-read-to : tie.Need-shared-slice-read-to Inv-loop μ-loop
-shared-slice-read-to c = omega arith
-
-mul-to-2 : tie.Need-mul-to-2 Inv-loop μ-loop
-mul-to-2 c = search needs
-
-slice-write-to : tie.Need-slice-write-to Inv-loop μ-loop
-slice-write-to c = omega arith
-
-add-k : tie.Need-add-k Inv-loop μ-loop
-add-k c = search needs
-
-loop-less : tie.Need-loop-less Inv-loop μ-loop
-loop-less c = omega arith
-
 same-length : tie.Need-same-length Inv-loop μ-loop
 same-length c = c .before .loop .inv .1
 
 pub copy-spec : {M : Type 1} → statement M
 copy-spec =
     tie.close
-    (tie.spec
-    Inv-loop
-    μ-loop
-    loop-holds
-    mul-to
-    shared-slice-read-to
-    mul-to-2
-    slice-write-to
-    add-k
-    loop-less
-    loop-again
-    same-length
-    returns)
+    (tie.spec Inv-loop μ-loop loop-holds (λ c. search needs) (λ c. omega arith) (λ c. search needs) (λ c. omega arith) (λ c. search needs)
+    (λ c. omega arith) loop-again same-length returns)

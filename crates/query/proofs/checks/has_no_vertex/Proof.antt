@@ -4,7 +4,7 @@ use Prim.Native.Nat.{_-_, _≤_}
 use native.Mathlib.Omega.{arith}
 use borrow.Author.Needs.{needs}
 use lib.ListN.{length, drop}
-use Rattle.query.specs.Rank.{someNoVertex}
+use Rattle.query_theory.specs.Rank.{someNoVertex}
 use Rattle.query.proofs.PathLaws.{vertex-found, vertex-more, vertex-none}
 use Rattle.query.proofs.checks.has_no_vertex.Statement.{statement}
 use Rattle.query.proofs.checks.has_no_vertex.Tie as tie
@@ -27,29 +27,10 @@ returns c = search vertex-found
 returns-2 : tie.Need-returns-2 Inv-loop μ-loop
 returns-2 c = vertex-none _ (c .before .before .args .path .now) (c .before .loop .t) (c .before .loop .inv .1) (omega arith)
 
-shared-slice-read-if1 : tie.Need-shared-slice-read-if1 Inv-loop μ-loop
-shared-slice-read-if1 c = search needs
-
 cast-if1 : tie.Need-cast-if1 Inv-loop μ-loop
 cast-if1 c = omega (arith, c .shared-slice-known .given (c .before .before .loop .t))
-
-add-t : tie.Need-add-t Inv-loop μ-loop
-add-t c = search needs
-
-loop-less : tie.Need-loop-less Inv-loop μ-loop
-loop-less c = omega arith
 
 pub has-no-vertex-spec : {M : Type 1} → statement M
 has-no-vertex-spec =
     tie.close
-    (tie.spec
-    Inv-loop
-    μ-loop
-    loop-holds
-    shared-slice-read-if1
-    cast-if1
-    returns
-    add-t
-    loop-less
-    loop-again
-    returns-2)
+    (tie.spec Inv-loop μ-loop loop-holds (λ c. search needs) cast-if1 returns (λ c. search needs) (λ c. omega arith) loop-again returns-2)

@@ -5,7 +5,7 @@ use native.Mathlib.Omega.{arith}
 use borrow.Author.Needs.{needs}
 use borrow.Author.Tests.{not-true, not-false}
 use lib.ListN.{length, drop}
-use Rattle.query.specs.Rank.{gap}
+use Rattle.query_theory.specs.Rank.{gap}
 use Rattle.query.proofs.PathLaws.{broken-none, broken-long, gap-found, gap-more, gap-none}
 use Rattle.query.proofs.checks.is_broken.Statement.{statement}
 use Rattle.query.proofs.checks.is_broken.Tie as tie
@@ -45,17 +45,8 @@ returns-4 c =
     let a = at .before .before .before .before .before .args in
     gap-none (a .n) (a .sheet .now) (a .path .now) (at .before .before .if1 .left) (at .before .if2 .left) (at .loop .t) (at .loop .inv .2) (at .loop .inv .0) (omega arith)
 
-sub-has-edge : tie.Need-sub-has-edge Inv-loop μ-loop
-sub-has-edge c = omega arith
-
-shared-slice-read-has-edge : tie.Need-shared-slice-read-has-edge Inv-loop μ-loop
-shared-slice-read-has-edge c = omega arith
-
 cast-has-edge : tie.Need-cast-has-edge Inv-loop μ-loop
 cast-has-edge c = omega (arith, c .shared-slice-known3 .given (c .before .before .loop .t - 1))
-
-shared-slice-read-has-edge-2 : tie.Need-shared-slice-read-has-edge-2 Inv-loop μ-loop
-shared-slice-read-has-edge-2 c = omega arith
 
 cast-has-edge-2 : tie.Need-cast-has-edge-2 Inv-loop μ-loop
 cast-has-edge-2 c = omega (arith, c .shared-slice-known4 .given (c .before .before .before .loop .t))
@@ -65,29 +56,8 @@ has-edge-requires c κs =
     let start = c .before .before .before .before .before .before .before .before in
     (start .pre .0, start .pre .1 _ (omega arith), start .pre .1 _ (omega arith))
 
-add-t : tie.Need-add-t Inv-loop μ-loop
-add-t c = search needs
-
-loop-less : tie.Need-loop-less Inv-loop μ-loop
-loop-less c = omega arith
-
 pub is-broken-spec : {M : Type 1} → statement M
 is-broken-spec =
     tie.close
-    (tie.spec
-    Inv-loop
-    μ-loop
-    returns
-    returns-2
-    loop-holds
-    sub-has-edge
-    shared-slice-read-has-edge
-    cast-has-edge
-    shared-slice-read-has-edge-2
-    cast-has-edge-2
-    has-edge-requires
-    returns-3
-    add-t
-    loop-less
-    loop-again
-    returns-4)
+    (tie.spec Inv-loop μ-loop returns returns-2 loop-holds (λ c. omega arith) (λ c. omega arith) cast-has-edge (λ c. omega arith) cast-has-edge-2
+    has-edge-requires returns-3 (λ c. search needs) (λ c. omega arith) loop-again returns-4)

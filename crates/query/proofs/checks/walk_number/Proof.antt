@@ -17,15 +17,10 @@ returns-3 c = search walk-beyond
 returns-4 : tie.Need-returns-4
 returns-4 c = search walk-good
 
-vertices-number-requires : tie.Need-vertices-number-requires
-vertices-number-requires c κs = search needs
-
 count-at-requires : tie.Need-count-at-requires
 count-at-requires c κs =
     let a = c .before .before .before .before .args in
     vertices-ready (a .n) (a .sheet .now) (a .from) (a .to) _ (c .before .before .vertices-number .ensures) (c .before .if1 .left)
 
 pub walk-number-spec : {M : Type 1} → statement M
-walk-number-spec =
-    tie.close
-    (tie.spec vertices-number-requires returns returns-2 count-at-requires returns-3 returns-4)
+walk-number-spec = tie.close (tie.spec (λ c κs. search needs) returns returns-2 count-at-requires returns-3 returns-4)

@@ -18,25 +18,10 @@ returns-3 c = search (without-absent, not-true)
 returns-4 : tie.Need-returns-4
 returns-4 c = search (without-there, not-false)
 
-vertices-number-requires : tie.Need-vertices-number-requires
-vertices-number-requires c κs = search needs
-
-vertices-number-requires-2 : tie.Need-vertices-number-requires-2
-vertices-number-requires-2 c κs = search needs
-
 has-edge-requires : tie.Need-has-edge-requires
 has-edge-requires c κs =
     let a = c .before .before .before .before .before .args in
     vertices-ready (a .n) (a .sheet .now) (a .edge-from) (a .edge-to) _ (c .before .vertices-number2 .ensures) (c .if2 .left)
 
 pub without-number-spec : {M : Type 1} → statement M
-without-number-spec =
-    tie.close
-    (tie.spec
-    vertices-number-requires
-    returns
-    vertices-number-requires-2
-    returns-2
-    has-edge-requires
-    returns-3
-    returns-4)
+without-number-spec = tie.close (tie.spec (λ c κs. search needs) returns (λ c κs. search needs) returns-2 has-edge-requires returns-3 returns-4)

@@ -29,15 +29,6 @@ returns c =
     let a = c .before .before .before .before .before .args in
     passing-done (a .n) (a .sheet .now) (a .j) (a .i) (a .b) _ _ (c .before .loop .inv) (omega (arith, eqb-true))
 
-mul-rest : tie.Need-mul-rest Inv-loop μ-loop
-mul-rest c = omega arith
-
-shared-slice-read-rest : tie.Need-shared-slice-read-rest Inv-loop μ-loop
-shared-slice-read-rest c = omega arith
-
-low-bits-requires : tie.Need-low-bits-requires Inv-loop μ-loop
-low-bits-requires c κs = omega arith
-
 lowest-bit-requires : tie.Need-lowest-bit-requires Inv-loop μ-loop
 lowest-bit-requires c κs = omega (arith, eqb-false)
 
@@ -46,29 +37,11 @@ count-at-requires c κs =
     let start = c .before .before .before .before .before .before in
     (start .pre .0, omega (arith, lowest-lt _ _ _ (c .lowest-bit .ensures) (c .before .before .loop .inv .below)), start .pre .1)
 
-wrapping-add-requires : tie.Need-wrapping-add-requires Inv-loop μ-loop
-wrapping-add-requires c κs = search needs
-
-clear-bit-requires : tie.Need-clear-bit-requires Inv-loop μ-loop
-clear-bit-requires c κs = omega arith
-
 loop-less : tie.Need-loop-less Inv-loop μ-loop
 loop-less c = search lowest-cleared-lt
 
 pub pass-over-spec : {M : Type 1} → statement M
 pass-over-spec =
     tie.close
-    (tie.spec
-    Inv-loop
-    μ-loop
-    mul-rest
-    shared-slice-read-rest
-    low-bits-requires
-    loop-holds
-    lowest-bit-requires
-    count-at-requires
-    wrapping-add-requires
-    clear-bit-requires
-    loop-less
-    loop-again
-    returns)
+    (tie.spec Inv-loop μ-loop (λ c. omega arith) (λ c. omega arith) (λ c κs. omega arith) loop-holds lowest-bit-requires count-at-requires
+    (λ c κs. search needs) (λ c κs. omega arith) loop-less loop-again returns)

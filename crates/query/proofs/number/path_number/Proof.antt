@@ -29,12 +29,6 @@ returns c =
     let a = c .before .before .before .before .before .args in
     numbering-done (a .n) (a .sheet .now) _ (a .path .now) (c .before .loop .t) _ (c .before .loop .inv) (omega arith) refl
 
-sub-end : tie.Need-sub-end Inv-loop μ-loop
-sub-end c = omega arith
-
-shared-slice-read-end : tie.Need-shared-slice-read-end Inv-loop μ-loop
-shared-slice-read-end c = omega arith
-
 cast-end : tie.Need-cast-end Inv-loop μ-loop
 cast-end c = omega (arith, c .shared-slice-known3 .given (length (c .before .before .before .args .path .now) - 1))
 
@@ -47,9 +41,6 @@ shared-slice-read-pass-over c = omega (arith, c .before .before .loop .inv .low)
 cast-pass-over : tie.Need-cast-pass-over Inv-loop μ-loop
 cast-pass-over c = omega (arith, c .shared-slice-known4 .given (c .before .before .loop .t - 1))
 
-shared-slice-read-pass-over-2 : tie.Need-shared-slice-read-pass-over-2 Inv-loop μ-loop
-shared-slice-read-pass-over-2 c = omega arith
-
 cast-pass-over-2 : tie.Need-cast-pass-over-2 Inv-loop μ-loop
 cast-pass-over-2 c = omega (arith, c .shared-slice-known5 .given (c .before .before .before .loop .t))
 
@@ -59,33 +50,8 @@ pass-over-requires c κs =
     let at = c .before .before .before .loop .inv in
     (start .pre .0, start .pre .1 _ (omega arith), start .pre .1 _ (omega (arith, at .low)), start .pre .1 _ (omega arith))
 
-wrapping-add-requires : tie.Need-wrapping-add-requires Inv-loop μ-loop
-wrapping-add-requires c κs = search needs
-
-add-t : tie.Need-add-t Inv-loop μ-loop
-add-t c = search needs
-
-loop-less : tie.Need-loop-less Inv-loop μ-loop
-loop-less c = omega arith
-
 pub path-number-spec : {M : Type 1} → statement M
 path-number-spec =
     tie.close
-    (tie.spec
-    Inv-loop
-    μ-loop
-    sub-end
-    shared-slice-read-end
-    cast-end
-    loop-holds
-    sub-pass-over
-    shared-slice-read-pass-over
-    cast-pass-over
-    shared-slice-read-pass-over-2
-    cast-pass-over-2
-    pass-over-requires
-    wrapping-add-requires
-    add-t
-    loop-less
-    loop-again
-    returns)
+    (tie.spec Inv-loop μ-loop (λ c. omega arith) (λ c. omega arith) cast-end loop-holds sub-pass-over shared-slice-read-pass-over cast-pass-over
+    (λ c. omega arith) cast-pass-over-2 pass-over-requires (λ c κs. search needs) (λ c. search needs) (λ c. omega arith) loop-again returns)

@@ -25,15 +25,6 @@ returns c = search trying-goes
 returns-2 : tie.Need-returns-2 Inv-loop μ-loop
 returns-2 c = trying-passes _ _ _ _ _ _ _ (c .before .loop .inv) (omega (arith, eqb-true))
 
-mul-rest : tie.Need-mul-rest Inv-loop μ-loop
-mul-rest c = omega arith
-
-shared-slice-read-rest : tie.Need-shared-slice-read-rest Inv-loop μ-loop
-shared-slice-read-rest c = omega arith
-
-low-bits-requires : tie.Need-low-bits-requires Inv-loop μ-loop
-low-bits-requires c κs = omega arith
-
 lowest-bit-requires : tie.Need-lowest-bit-requires Inv-loop μ-loop
 lowest-bit-requires c κs = omega (arith, eqb-false)
 
@@ -42,26 +33,11 @@ count-at-requires c κs =
     let start = c .before .before .before .before .before .before in
     (start .pre .0, omega (arith, lowest-lt _ _ _ (c .lowest-bit .ensures) (c .before .before .loop .inv .small)), start .pre .2)
 
-clear-bit-requires : tie.Need-clear-bit-requires Inv-loop μ-loop
-clear-bit-requires c κs = omega arith
-
 loop-less : tie.Need-loop-less Inv-loop μ-loop
 loop-less c = search lowest-cleared-lt
 
 pub step-spec : {M : Type 1} → statement M
 step-spec =
     tie.close
-    (tie.spec
-    Inv-loop
-    μ-loop
-    mul-rest
-    shared-slice-read-rest
-    low-bits-requires
-    loop-holds
-    lowest-bit-requires
-    count-at-requires
-    returns
-    clear-bit-requires
-    loop-less
-    loop-again
-    returns-2)
+    (tie.spec Inv-loop μ-loop (λ c. omega arith) (λ c. omega arith) (λ c κs. omega arith) loop-holds lowest-bit-requires count-at-requires returns
+    (λ c κs. omega arith) loop-less loop-again returns-2)

@@ -35,31 +35,13 @@ cast-aside c = omega (arith, c .before .loop .inv .vertex)
 element-write-aside : tie.Need-element-write-aside Inv-loop μ-loop
 element-write-aside c = omega (arith, c .before .loop .inv .long)
 
-add-count : tie.Need-add-count Inv-loop μ-loop
-add-count c = omega arith
-
 step-requires : tie.Need-step-requires Inv-loop μ-loop
 step-requires c κs =
     let start = c .before .before .before .before in
     (start .pre .0, c .before .before .loop .inv .vertex, start .pre .2)
 
-loop-less : tie.Need-loop-less Inv-loop μ-loop
-loop-less c = omega arith
-
 pub walk-aside-spec : {M : Type 1} → statement M
 walk-aside-spec =
     tie.close
-    (tie.spec
-    Inv-loop
-    μ-loop
-    loop-holds
-    cast-aside
-    element-write-aside
-    add-count
-    returns
-    returns-2
-    step-requires
-    returns-3
-    loop-less
-    loop-again
-    returns-4)
+    (tie.spec Inv-loop μ-loop loop-holds cast-aside element-write-aside (λ c. omega arith) returns returns-2 step-requires returns-3
+    (λ c. omega arith) loop-again returns-4)

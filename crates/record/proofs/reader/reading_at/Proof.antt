@@ -13,34 +13,8 @@ returns-2 c = search reading-at-end
 returns-3 : tie.Need-returns-3
 returns-3 c = search reading-next
 
-mul-start : tie.Need-mul-start
-mul-start c = search needs
-
-sub-decode : tie.Need-sub-decode
-sub-decode c = search needs
-
-part-decode-start : tie.Need-part-decode-start
-part-decode-start c = search needs
-
-part-decode-end : tie.Need-part-decode-end
-part-decode-end c = search needs
-
-decode-requires : tie.Need-decode-requires
-decode-requires c κs = search needs
-
-add-t4 : tie.Need-add-t4
-add-t4 c = search needs
-
 pub reading-at-spec : {M : Type 1} → statement M
 reading-at-spec =
     tie.close
-    (tie.spec
-    returns
-    mul-start
-    returns-2
-    sub-decode
-    part-decode-start
-    part-decode-end
-    decode-requires
-    add-t4
-    returns-3)
+    (tie.spec returns (λ c. search needs) returns-2 (λ c. search needs) (λ c. search needs) (λ c. search needs) (λ c κs. search needs)
+    (λ c. search needs) returns-3)

@@ -13,9 +13,6 @@ Inv-loop n sheet order₀ p₀ order p = Peeled n sheet p order
 abbrev μ-loop : tie.MeasureT-loop
 μ-loop n sheet order₀ p₀ order p = p .left
 
-low-bits-requires : tie.Need-low-bits-requires Inv-loop μ-loop
-low-bits-requires c κs = omega arith
-
 loop-holds : tie.Need-loop-holds Inv-loop μ-loop
 loop-holds c = let a = c .before .before in peeled-start _ _ (a .pre .0 .high) (a .pre .1) _ _ (a .pre .2) (c .low-bits .ensures) refl
 
@@ -39,15 +36,4 @@ returns-2 c =
     order-complete _ _ (a .pre .0 .high) (a .pre .1) _ _ (c .before .before .loop .inv) (c .if1 .left)
 
 pub find-order-spec : {M : Type 1} → statement M
-find-order-spec =
-    tie.close
-    (tie.spec
-    Inv-loop
-    μ-loop
-    low-bits-requires
-    loop-holds
-    look-round-requires
-    returns
-    loop-less
-    loop-again
-    returns-2)
+find-order-spec = tie.close (tie.spec Inv-loop μ-loop (λ c κs. omega arith) loop-holds look-round-requires returns loop-less loop-again returns-2)

@@ -7,9 +7,6 @@ use Rattle.recount.proofs.OrderLaws.{look-gone, look-held, look-free, l
 use Rattle.recount.proofs.order.look_at.Statement.{statement}
 use Rattle.recount.proofs.order.look_at.Tie as tie
 
-test-bit-requires : tie.Need-test-bit-requires
-test-bit-requires c κs = search needs
-
 returns : tie.Need-returns
 returns c = search (look-gone, not-true)
 
@@ -25,9 +22,6 @@ mul-order c = omega (arith, room c)
 element-write-order : tie.Need-element-write-order
 element-write-order c = room c
 
-clear-bit-requires : tie.Need-clear-bit-requires
-clear-bit-requires c κs = search needs
-
 add-t10 : tie.Need-add-t10
 add-t10 c = omega (arith, room (c .before))
 
@@ -35,14 +29,4 @@ returns-3 : tie.Need-returns-3
 returns-3 c = search (look-taken, look-free, not-false)
 
 pub look-at-spec : {M : Type 1} → statement M
-look-at-spec =
-    tie.close
-    (tie.spec
-    test-bit-requires
-    returns
-    returns-2
-    mul-order
-    element-write-order
-    clear-bit-requires
-    add-t10
-    returns-3)
+look-at-spec = tie.close (tie.spec (λ c κs. search needs) returns returns-2 mul-order element-write-order (λ c κs. search needs) add-t10 returns-3)

@@ -16,22 +16,10 @@ abbrev μ-loop : tie.MeasureT-loop
 loop-holds : tie.Need-loop-holds Inv-loop μ-loop
 loop-holds c = let a = c .before in (omega arith, looked-start _ _ (a .pre .0 .high) (a .pre .1) _ _ (a .pre .2))
 
-sub-i : tie.Need-sub-i Inv-loop μ-loop
-sub-i c = omega arith
-
-mul-look-at : tie.Need-mul-look-at Inv-loop μ-loop
-mul-look-at c = omega arith
-
-shared-slice-read-look-at : tie.Need-shared-slice-read-look-at Inv-loop μ-loop
-shared-slice-read-look-at c = omega arith
-
 look-at-requires : tie.Need-look-at-requires Inv-loop μ-loop
 look-at-requires c κs =
     let a = c .before .before .before .before .before in
     (omega arith, looked-room _ _ (a .pre .0 .high) (a .pre .1) _ _ _ _ _ (c .before .before .before .loop .inv .1) (omega arith))
-
-loop-less : tie.Need-loop-less Inv-loop μ-loop
-loop-less c = omega arith
 
 loop-again : tie.Need-loop-again Inv-loop μ-loop
 loop-again c =
@@ -45,14 +33,5 @@ returns c = let z : c .before .loop .i ≡ 0 = omega arith in rw z at (c .before
 pub look-round-spec : {M : Type 1} → statement M
 look-round-spec =
     tie.close
-    (tie.spec
-    Inv-loop
-    μ-loop
-    loop-holds
-    sub-i
-    mul-look-at
-    shared-slice-read-look-at
-    look-at-requires
-    loop-less
-    loop-again
+    (tie.spec Inv-loop μ-loop loop-holds (λ c. omega arith) (λ c. omega arith) (λ c. omega arith) look-at-requires (λ c. omega arith) loop-again
     returns)

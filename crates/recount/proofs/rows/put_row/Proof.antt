@@ -17,27 +17,6 @@ abbrev μ-loop : tie.MeasureT-loop
 loop-holds : tie.Need-loop-holds Inv-loop μ-loop
 loop-holds c = (omega arith, refl, puts-none _ _ _)
 
-mul-sheet : tie.Need-mul-sheet Inv-loop μ-loop
-mul-sheet c = omega arith
-
-element-copy-out-sheet : tie.Need-element-copy-out-sheet Inv-loop μ-loop
-element-copy-out-sheet c = omega arith
-
-add-sheet : tie.Need-add-sheet Inv-loop μ-loop
-add-sheet c = omega arith
-
-mul-sheet-2 : tie.Need-mul-sheet-2 Inv-loop μ-loop
-mul-sheet-2 c = omega arith
-
-slice-write-sheet : tie.Need-slice-write-sheet Inv-loop μ-loop
-slice-write-sheet c = omega arith
-
-add-j : tie.Need-add-j Inv-loop μ-loop
-add-j c = omega arith
-
-loop-less : tie.Need-loop-less Inv-loop μ-loop
-loop-less c = omega arith
-
 loop-again : tie.Need-loop-again Inv-loop μ-loop
 loop-again c = (omega arith, simp length-set (omega arith), puts-more _ _ _ _ _ _ _ (c .before .before .loop .inv .2) refl refl)
 
@@ -50,17 +29,5 @@ returns c = puts-done _ _ _ _ (c .before .loop .j) _ (c .before .loop .inv .2) (
 pub put-row-spec : {M : Type 1} → statement M
 put-row-spec =
     tie.close
-    (tie.spec
-    Inv-loop
-    μ-loop
-    loop-holds
-    mul-sheet
-    element-copy-out-sheet
-    add-sheet
-    mul-sheet-2
-    slice-write-sheet
-    add-j
-    loop-less
-    loop-again
-    same-length
-    returns)
+    (tie.spec Inv-loop μ-loop loop-holds (λ c. omega arith) (λ c. omega arith) (λ c. omega arith) (λ c. omega arith) (λ c. omega arith)
+    (λ c. omega arith) (λ c. omega arith) loop-again same-length returns)

@@ -4,15 +4,6 @@ use Rattle.recount.proofs.RowLaws.{holds-same}
 use Rattle.recount.proofs.rows.row_holds.Statement.{statement}
 use Rattle.recount.proofs.rows.row_holds.Tie as tie
 
-sum-successors-requires : tie.Need-sum-successors-requires
-sum-successors-requires c κs = search needs
-
-row-base-requires : tie.Need-row-base-requires
-row-base-requires c κs = search needs
-
-same-row-requires : tie.Need-same-row-requires
-same-row-requires c κs = search needs
-
 returns : tie.Need-returns
 returns c =
     let b = c .before .before in
@@ -20,5 +11,4 @@ returns c =
     holds-same (a .n) (a .sheet .now) _ (a .i) _ _ (b .row-base .ensures) (b .before .sum-successors .ensures) (c .same-row .ensures)
 
 pub row-holds-spec : {M : Type 1} → statement M
-row-holds-spec =
-    tie.close (tie.spec sum-successors-requires row-base-requires same-row-requires returns)
+row-holds-spec = tie.close (tie.spec (λ c κs. search needs) (λ c κs. search needs) (λ c κs. search needs) returns)

@@ -29,12 +29,6 @@ returns c =
     let a = l .before .before .args in
     each-fails (λ k. RowHolds (a .n) (a .sheet .now) k) (a .n) (l .loop .i) _ (c .before .row-holds .ensures) (c .if1 .taken) (omega arith)
 
-add-i : tie.Need-add-i Inv-loop μ-loop
-add-i c = omega arith
-
-loop-less : tie.Need-loop-less Inv-loop μ-loop
-loop-less c = omega arith
-
 loop-again : tie.Need-loop-again Inv-loop μ-loop
 loop-again c =
     let l = c .before .before .before in
@@ -50,13 +44,4 @@ returns-2 c =
 pub rows-hold-spec : {M : Type 1} → statement M
 rows-hold-spec =
     tie.close
-    (tie.spec
-    Inv-loop
-    μ-loop
-    loop-holds
-    row-holds-requires
-    returns
-    add-i
-    loop-less
-    loop-again
-    returns-2)
+    (tie.spec Inv-loop μ-loop loop-holds row-holds-requires returns (λ c. omega arith) (λ c. omega arith) loop-again returns-2)

@@ -17,27 +17,6 @@ abbrev μ-loop : tie.MeasureT-loop
 loop-holds : tie.Need-loop-holds Inv-loop μ-loop
 loop-holds c = (omega arith, same-none (c .args .sheet .now) (c .args .base) (c .args .t .now))
 
-add-difference : tie.Need-add-difference Inv-loop μ-loop
-add-difference c = omega arith
-
-mul-difference : tie.Need-mul-difference Inv-loop μ-loop
-mul-difference c = omega arith
-
-shared-slice-read-difference : tie.Need-shared-slice-read-difference Inv-loop μ-loop
-shared-slice-read-difference c = omega arith
-
-mul-difference-2 : tie.Need-mul-difference-2 Inv-loop μ-loop
-mul-difference-2 c = omega arith
-
-element-copy-out-difference : tie.Need-element-copy-out-difference Inv-loop μ-loop
-element-copy-out-difference c = omega arith
-
-add-j : tie.Need-add-j Inv-loop μ-loop
-add-j c = omega arith
-
-loop-less : tie.Need-loop-less Inv-loop μ-loop
-loop-less c = omega arith
-
 loop-again : tie.Need-loop-again Inv-loop μ-loop
 loop-again c =
     let a = c .before .before .before .before .args in
@@ -53,16 +32,5 @@ returns c =
 pub same-row-spec : {M : Type 1} → statement M
 same-row-spec =
     tie.close
-    (tie.spec
-    Inv-loop
-    μ-loop
-    loop-holds
-    add-difference
-    mul-difference
-    shared-slice-read-difference
-    mul-difference-2
-    element-copy-out-difference
-    add-j
-    loop-less
-    loop-again
-    returns)
+    (tie.spec Inv-loop μ-loop loop-holds (λ c. omega arith) (λ c. omega arith) (λ c. omega arith) (λ c. omega arith) (λ c. omega arith)
+    (λ c. omega arith) (λ c. omega arith) loop-again returns)

@@ -20,8 +20,5 @@ put-requires-2 c κs =
     let a = c .before .before .before .before .before .before .before .args in
     omega (arith, length-append (a .label .now) (decimal (a .x)))
 
-same-length : tie.Need-same-length
-same-length c = search needs
-
 pub put-labelled-spec : {M : Type 1} → statement M
-put-labelled-spec = tie.close (tie.spec put-requires put-requires-2 same-length returns)
+put-labelled-spec = tie.close (tie.spec put-requires put-requires-2 (λ c. search needs) returns)

@@ -15,15 +15,8 @@ returns c = ⊎-elim (λ w. search passed) (λ w. search passed) (c .if1 .came)
 returns-2 : tie.Need-returns-2
 returns-2 c = search (pair-put, eqb-false)
 
-count-at-requires : tie.Need-count-at-requires
-count-at-requires c κs = search needs
-
 put-count-requires : tie.Need-put-count-requires
 put-count-requires c κs = search (pair-room, eqb-false)
 
-same-length : tie.Need-same-length
-same-length c = search needs
-
 pub put-pair-spec : {M : Type 1} → statement M
-put-pair-spec =
-    tie.close (tie.spec count-at-requires returns put-count-requires same-length returns-2)
+put-pair-spec = tie.close (tie.spec (λ c κs. search needs) returns put-count-requires (λ c. search needs) returns-2)

@@ -11,17 +11,11 @@ use Rattle.report.proofs.lines.put_refused.Tie as tie
 returns : tie.Need-returns
 returns c = search refused-put
 
-slice-aggregate-put-labelled : tie.Need-slice-aggregate-put-labelled
-slice-aggregate-put-labelled c = search needs
-
 put-labelled-requires : tie.Need-put-labelled-requires
 put-labelled-requires c κs =
     let a = c .before .before .before .args in
     let number = decimal (a .number) in
     omega (arith, length-append (decimal (a .place)) (refusedLabel ++ (number ++ (10 ∷ []))), length-append number (10 ∷ []))
-
-slice-aggregate-put-labelled-2 : tie.Need-slice-aggregate-put-labelled-2
-slice-aggregate-put-labelled-2 c = search needs
 
 put-labelled-requires-2 : tie.Need-put-labelled-requires-2
 put-labelled-requires-2 c κs =
@@ -29,27 +23,14 @@ put-labelled-requires-2 c κs =
     let number = decimal (a .number) in
     omega (arith, length-append (decimal (a .place)) (refusedLabel ++ (number ++ (10 ∷ []))), length-append number (10 ∷ []))
 
-slice-aggregate-put : tie.Need-slice-aggregate-put
-slice-aggregate-put c = search needs
-
 put-requires : tie.Need-put-requires
 put-requires c κs =
     let a = c .before .before .before .before .before .before .before .before .before .before .before .before .before .args in
     let number = decimal (a .number) in
     omega (arith, length-append (decimal (a .place)) (refusedLabel ++ (number ++ (10 ∷ []))), length-append number (10 ∷ []))
 
-same-length : tie.Need-same-length
-same-length c = search needs
-
 pub put-refused-spec : {M : Type 1} → statement M
 put-refused-spec =
     tie.close
-    (tie.spec
-    slice-aggregate-put-labelled
-    put-labelled-requires
-    slice-aggregate-put-labelled-2
-    put-labelled-requires-2
-    slice-aggregate-put
-    put-requires
-    same-length
-    returns)
+    (tie.spec (λ c. search needs) put-labelled-requires (λ c. search needs) put-labelled-requires-2 (λ c. search needs) put-requires
+    (λ c. search needs) returns)

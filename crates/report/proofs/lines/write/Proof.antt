@@ -18,9 +18,6 @@ returns-2 c =
 put-refused-requires : tie.Need-put-refused-requires
 put-refused-requires c κs = let a = c .before .before .before .before .args .answer in omega (arith, refused-le (a .place) (a .number))
 
-same-length : tie.Need-same-length
-same-length c = search needs
-
 put-pipes-requires : tie.Need-put-pipes-requires
 put-pipes-requires c κs = omega (arith, pipes-le (c .before .before .before .before .args .answer .value))
 
@@ -29,17 +26,5 @@ put-rows-requires c κs =
     let start = c .before .before .before .before .before .before .before .before in
     (start .pre .0, omega (arith, pipes-le (start .args .answer .value), rows-le (start .args .sheet .now)))
 
-same-length-2 : tie.Need-same-length-2
-same-length-2 c = search needs
-
 pub write-spec : {M : Type 1} → statement M
-write-spec =
-    tie.close
-    (tie.spec
-    put-refused-requires
-    same-length
-    returns
-    put-pipes-requires
-    put-rows-requires
-    same-length-2
-    returns-2)
+write-spec = tie.close (tie.spec put-refused-requires (λ c. search needs) returns put-pipes-requires put-rows-requires (λ c. search needs) returns-2)

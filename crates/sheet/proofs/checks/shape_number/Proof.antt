@@ -11,9 +11,6 @@ returns c = shape-none _ _ (c .if1 .taken)
 returns-2 : tie.Need-returns-2
 returns-2 c = shape-many _ _ (c .if2 .taken)
 
-word-count-requires : tie.Need-word-count-requires
-word-count-requires c κs = search needs
-
 returns-3 : tie.Need-returns-3
 returns-3 c = search (shape-long, arith)
 
@@ -21,4 +18,4 @@ returns-4 : tie.Need-returns-4
 returns-4 c = search (shape-good, arith)
 
 pub shape-number-spec : {M : Type 1} → statement M
-shape-number-spec = tie.close (tie.spec returns returns-2 word-count-requires returns-3 returns-4)
+shape-number-spec = tie.close (tie.spec returns returns-2 (λ c κs. search needs) returns-3 returns-4)

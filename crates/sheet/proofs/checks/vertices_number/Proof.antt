@@ -16,8 +16,5 @@ returns-3 c = search vertices-to
 returns-4 : tie.Need-returns-4
 returns-4 c = search vertices-good
 
-shape-number-requires : tie.Need-shape-number-requires
-shape-number-requires c κs = search needs
-
 pub vertices-number-spec : {M : Type 1} → statement M
-vertices-number-spec = tie.close (tie.spec shape-number-requires returns returns-2 returns-3 returns-4)
+vertices-number-spec = tie.close (tie.spec (λ c κs. search needs) returns returns-2 returns-3 returns-4)

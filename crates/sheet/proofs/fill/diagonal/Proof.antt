@@ -18,21 +18,6 @@ abbrev μ-loop : tie.MeasureT-loop
 loop-holds : tie.Need-loop-holds Inv-loop μ-loop
 loop-holds c = (omega arith, refl, puts-none _ _ _)
 
-count-place-requires : tie.Need-count-place-requires Inv-loop μ-loop
-count-place-requires c κs = omega arith
-
-mul-sheet : tie.Need-mul-sheet Inv-loop μ-loop
-mul-sheet c = omega arith
-
-slice-write-sheet : tie.Need-slice-write-sheet Inv-loop μ-loop
-slice-write-sheet c = omega arith
-
-add-i : tie.Need-add-i Inv-loop μ-loop
-add-i c = omega arith
-
-loop-less : tie.Need-loop-less Inv-loop μ-loop
-loop-less c = omega arith
-
 loop-again : tie.Need-loop-again Inv-loop μ-loop
 loop-again c = (omega arith, simp length-set (omega arith), puts-more _ _ _ _ _ _ _ (c .before .before .loop .inv .2) (c .count-place .ensures .is) refl)
 
@@ -45,15 +30,5 @@ returns c = puts-done _ _ _ _ (c .before .loop .i) (c .before .before .before .a
 pub diagonal-spec : {M : Type 1} → statement M
 diagonal-spec =
     tie.close
-    (tie.spec
-    Inv-loop
-    μ-loop
-    loop-holds
-    count-place-requires
-    mul-sheet
-    slice-write-sheet
-    add-i
-    loop-less
-    loop-again
-    same-length
-    returns)
+    (tie.spec Inv-loop μ-loop loop-holds (λ c κs. omega arith) (λ c. omega arith) (λ c. omega arith) (λ c. omega arith) (λ c. omega arith) loop-again
+    same-length returns)

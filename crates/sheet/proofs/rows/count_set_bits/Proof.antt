@@ -19,26 +19,11 @@ abbrev μ-loop : tie.MeasureT-loop
 loop-holds : tie.Need-loop-holds Inv-loop μ-loop
 loop-holds c = (omega arith, setBits-zero _)
 
-mul-count-bits : tie.Need-mul-count-bits Inv-loop μ-loop
-mul-count-bits c = omega arith
-
-shared-slice-read-count-bits : tie.Need-shared-slice-read-count-bits Inv-loop μ-loop
-shared-slice-read-count-bits c = omega arith
-
-count-bits-requires : tie.Need-count-bits-requires Inv-loop μ-loop
-count-bits-requires c κs = search needs
-
 add-total : tie.Need-add-total Inv-loop μ-loop
 add-total c =
     let l = c .before .before .before .loop in
     let s = c .before .before .before .before .before .args .sheet .now in
     omega (arith, setBits-le s (l .i), bitCount-le (getD s (l .i) 0))
-
-add-i : tie.Need-add-i Inv-loop μ-loop
-add-i c = omega arith
-
-loop-less : tie.Need-loop-less Inv-loop μ-loop
-loop-less c = omega arith
 
 loop-again : tie.Need-loop-again Inv-loop μ-loop
 loop-again c = (omega arith, search setBits-more)
@@ -49,15 +34,5 @@ returns c = setBits-done _ (c .before .loop .i) _ _ (c .before .loop .inv .1) (o
 pub count-set-bits-spec : {M : Type 1} → statement M
 count-set-bits-spec =
     tie.close
-    (tie.spec
-    Inv-loop
-    μ-loop
-    loop-holds
-    mul-count-bits
-    shared-slice-read-count-bits
-    count-bits-requires
-    add-total
-    add-i
-    loop-less
-    loop-again
-    returns)
+    (tie.spec Inv-loop μ-loop loop-holds (λ c. omega arith) (λ c. omega arith) (λ c κs. search needs) add-total (λ c. omega arith) (λ c. omega arith)
+    loop-again returns)

@@ -22,12 +22,6 @@ lowest-bit-requires c κs = omega (arith, eqb-false)
 row-base-requires : tie.Need-row-base-requires Inv-loop μ-loop
 row-base-requires c κs = (omega arith, lowest-lt _ _ _ (c .lowest-bit .ensures) (c .before .before .loop .inv .adding 0 (omega arith) .below))
 
-add-row-requires : tie.Need-add-row-requires Inv-loop μ-loop
-add-row-requires c κs = omega arith
-
-clear-bit-requires : tie.Need-clear-bit-requires Inv-loop μ-loop
-clear-bit-requires c κs = omega arith
-
 loop-less : tie.Need-loop-less Inv-loop μ-loop
 loop-less c = search lowest-cleared-lt
 
@@ -40,14 +34,5 @@ returns c = summing-done _ _ _ _ _ (c .before .loop .inv) (omega (arith, eqb-tru
 pub sum-rows-spec : {M : Type 1} → statement M
 sum-rows-spec =
     tie.close
-    (tie.spec
-    Inv-loop
-    μ-loop
-    loop-holds
-    lowest-bit-requires
-    row-base-requires
-    add-row-requires
-    clear-bit-requires
-    loop-less
-    loop-again
+    (tie.spec Inv-loop μ-loop loop-holds lowest-bit-requires row-base-requires (λ c κs. omega arith) (λ c κs. omega arith) loop-less loop-again
     returns)

@@ -1,0 +1,67 @@
+-- Edits, computed from the definitions that the contracts cite: the order of the conditions on document 01's orchard D, with five vertices,
+-- and sheets that are not valid. Assumes nothing.
+use mathlib.Core.Path.{_≡_, refl}
+use mathlib.Core.List.{[], _∷_}
+use Rattle.sums.specs.Sum.{sum}
+use Rattle.word.specs.Bit.{bitCount, ofBits}
+use Rattle.word.specs.Wrap.{minus}
+use Rattle.graph.specs.Update.{fromSum, toSum}
+use Rattle.sheet.specs.Table.{firstTrue}
+use Rattle.sheet.specs.Answers.{answer}
+use Rattle.sheet.specs.Layout.{setBits, build, redoneWord, redone}
+use Rattle.sheet.proofs.Examples.{D}
+use Rattle.edit_theory.specs.Edit.{insertEdge, deleteEdge, insertEdgesAt, deleteEdgesAt}
+use Rattle.edit_theory.specs.Outcome.{some, someEdge, closes, editedRow, editedBy, editedCount, edited, editAnswer, editAfter}
+
+-- each number, with the condition of the next one true as well where there is one
+pub other-length : editAnswer (insertEdge 4 4 4) D ≡ answer 2 0 0
+unfolding D firstTrue
+other-length = refl
+
+pub no-vertex : editAnswer (insertEdgesAt 5 5 32 0) D ≡ answer 3 0 0
+unfolding D firstTrue
+no-vertex = refl
+
+pub stray-into : editAnswer (insertEdgesAt 5 0 33 0) D ≡ answer 4 0 0
+unfolding D firstTrue
+stray-into = refl
+
+pub stray-deleted : editAnswer (deleteEdgesAt 5 0 34 0) D ≡ answer 4 0 0
+unfolding D firstTrue
+stray-deleted = refl
+
+pub present-into : editAnswer (insertEdgesAt 5 1 1 1) D ≡ answer 6 0 0
+unfolding D firstTrue some someEdge
+present-into = refl
+
+pub absent-edge : editAnswer (deleteEdge 5 1 0) D ≡ answer 7 0 0
+unfolding D firstTrue some someEdge
+absent-edge = refl
+
+-- one edge of D deleted
+pub deleted-value : editAnswer (deleteEdge 5 0 1) D ≡ answer 0 0 3
+unfolding D firstTrue some someEdge edited editedRow editedCount editedBy redone redoneWord build ofBits fromSum toSum sum minus setBits bitCount
+deleted-value = refl
+
+-- 5 comes before 6: 0 to 0, with 0 to 1 that is there
+pub loop-first : editAnswer (insertEdgesAt 5 0 1 2) D ≡ answer 5 0 0
+unfolding D firstTrue some someEdge
+loop-first = refl
+
+-- a damaged sheet with an edge from 0 to itself, which both masks name: one bit is cleared, once, and the count is 5 - 50 + 25
+pub struck-once : editAfter (deleteEdgesAt 1 0 1 1) (1 ∷ 5 ∷ []) ≡ 0 ∷ 18446744073709551596 ∷ []
+unfolding firstTrue some someEdge edited editedRow editedCount editedBy redone redoneWord build ofBits fromSum toSum sum minus
+struck-once = refl
+
+pub struck-value : editAnswer (deleteEdgesAt 1 0 1 1) (1 ∷ 5 ∷ []) ≡ answer 0 0 0
+unfolding firstTrue some someEdge edited editedRow editedCount editedBy redone redoneWord build ofBits fromSum toSum sum minus setBits bitCount
+struck-value = refl
+
+-- a stray bit is counted in the value and stays
+pub stray-kept : editAfter (insertEdge 2 0 1) (4 ∷ 0 ∷ 1 ∷ 0 ∷ 0 ∷ 1 ∷ []) ≡ 6 ∷ 0 ∷ 1 ∷ 1 ∷ 0 ∷ 1 ∷ []
+unfolding firstTrue some someEdge closes edited editedRow editedCount editedBy redone redoneWord build ofBits fromSum toSum sum
+stray-kept = refl
+
+pub stray-value : editAnswer (insertEdge 2 0 1) (4 ∷ 0 ∷ 1 ∷ 0 ∷ 0 ∷ 1 ∷ []) ≡ answer 0 0 2
+unfolding firstTrue some someEdge closes edited editedRow editedCount editedBy redone redoneWord build ofBits fromSum toSum sum setBits bitCount
+stray-value = refl

@@ -1,0 +1,11 @@
+pub mod Examples
+pub mod Refusals
+pub mod AnyWords
+pub mod OneEdit
+pub mod EmptyMasks
+pub mod TestLaws
+pub mod NamedLaws
+pub mod ConditionLaws
+pub mod FreshLaws
+pub mod StepLaws
+pub mod EditedRow

@@ -1,0 +1,98 @@
+-- WHAT ONE EDIT DOES, in terms of the model, of paths and of cycles. Assumes nothing.
+use mathlib.Core.Path.{_≡_, refl, sym, ap, subst, _∙_}
+use mathlib.Core.Logic.{inl, inr, _↔_}
+use mathlib.Core.Bool.{Bool, true, false}
+use mathlib.Core.List.{List, []}
+use Prim.Native.Nat.{ℕ, _<_}
+use native.Mathlib.Omega.{arith}
+use Rattle.graph.specs.Graph.{Cycle}
+use Rattle.graph.proofs.Walks.{paths-cong}
+use Rattle.graph.proofs.Using.{paths-using}
+use Rattle.sheet.specs.declared.answer.Answer.{Answer}
+use Rattle.sheet.specs.Table.{First}
+use Rattle.sheet.specs.Answers.{decided}
+use Rattle.sheet.specs.Layout.{edgeAt}
+use Rattle.sheet.specs.Conditions.{BadVertices}
+use Rattle.sheet.specs.Valid.{Valid}
+use Rattle.sheet.proofs.TableLaws.{first-past, first-rest, first-last, first-accepts}
+use Rattle.sheet.proofs.ValidLaws.{edge-le}
+use Rattle.edit_theory.specs.Edit.{Edges, Edit, insertEdge, named, marked}
+use Rattle.edit_theory.specs.Table.{SomeEdge, argued, effects}
+use Rattle.edit_theory.specs.Outcome.{editWords, editAnswer, editAfter}
+use Rattle.edit_theory.specs.Model.{Model, opened, effect, modelConditions, Step, MayInsert, Fresh}
+use Rattle.edit_theory.specs.Change.{Changed}
+use Rattle.edit_theory.proofs.FreshLaws.{modelled-valid, valid-modelled}
+use Rattle.edit_theory.proofs.ConditionLaws.{argued-rest, passed}
+use Rattle.edit_theory.proofs.StepLaws.{number-first, accepted-modelled, edit-step, step-only}
+
+module _ (n : ℕ) (s : List ℕ) (valid : Valid n s) where
+  -- THE MODEL: on a valid sheet the answer is that of the model's step, and the sheet afterwards is the one worked out afresh from the
+  -- model afterwards, and valid
+  pub edit-exact : (e : Edit) → (m : Model) × Step (opened n s) e (editAnswer e s) m × Fresh m (editAfter e s) × Valid n (editAfter e s)
+  edit-exact e =
+      let r = edit-step (opened n s) s (valid-modelled valid) e in
+      (r .0, r .1, r .2 .fresh, subst (λ x. Valid x (editAfter e s)) (r .3) (modelled-valid (r .2)))
+
+  -- once the arguments are in order, the number is that of the first of 5, 6 and 8 that holds of an insertion, of 7 of a deletion; a cycle
+  -- is looked for among the edges and all those to insert together
+  pub edit-effects : (inserts : Bool) (g : Edges) → First (argued n g []) 0 →
+      let e : Edit = record { inserts = inserts; vertices = n; edges = g } in
+      First (effects inserts n g (edgeAt s) (Cycle n (effect (opened n s) e .edge))) (editAnswer e s .number)
+  edit-effects inserts g ok =
+      let f = number-first (opened n s) s (valid-modelled valid) (record { inserts = inserts; vertices = n; edges = g }) in
+      let few : ¬ (BadVertices n) = λ c. elim c [ inl l ↦ omega (arith, valid .shape .low) | inr l ↦ omega (arith, valid .shape .high) ] in
+      argued-rest n g _ _ ok (first-rest (λ d. d refl) (first-rest few f))
+
+  -- CYCLES: once the earlier conditions do not hold, an insertion is refused by 8 exactly if there is a cycle among the edges and all those
+  -- to insert together, and else it is accepted
+  pub edit-cycle-iff : (g : Edges) → First (argued n g []) 0 → ¬ (SomeEdge n g (λ i j. i ≡ j)) → ¬ (SomeEdge n g (λ i j. edgeAt s i j ≡ 1)) →
+      let e : Edit = record { inserts = true; vertices = n; edges = g } in
+      let Closed : Type 0 = Cycle n (effect (opened n s) e .edge) in
+      ((editAnswer e s .number ≡ 8) ↔ Closed) × ((editAnswer e s .number ≡ 0) ↔ (¬ Closed))
+  edit-cycle-iff g ok noLoop new =
+      let f = first-rest new (first-rest noLoop (edit-effects true g ok)) in (first-last f, first-accepts f)
+
+  -- an edge may be inserted by the model exactly if inserting it on the sheet is accepted
+  pub may-insert-iff : (u v : ℕ) → MayInsert (opened n s) u v ↔ (editAnswer (insertEdge n u v) s .number ≡ 0)
+  may-insert-iff u v =
+      let r = edit-exact (insertEdge n u v) in (
+        λ h. ap (λ (x : Answer). x .number) (step-only (r .1) (h .step) .0) ∙ h .accepted,
+        λ z. record { answer = editAnswer (insertEdge n u v) s; after = r .0; step = r .1; accepted = z },
+      )
+
+-- ---- the paths that use one of the edges
+
+module _ (n : ℕ) (s : List ℕ) (valid : Valid n s) (g : Edges) (t : List ℕ) (i j : ℕ) (hi : i < n) (hj : j < n) where
+  -- the edges afterwards
+  abbrev after : Bool → ℕ → ℕ → ℕ
+  after inserts x y = marked inserts (named g x y) (edgeAt s x y)
+
+  changed : (inserts : Bool) → First (effects inserts n g (edgeAt s) (Cycle n (after inserts))) 0 → Fresh (record { vertices = n; edge = after inserts }) t
+      → Changed inserts n s g t i j
+  changed true f fresh =
+      paths-using n (edgeAt s) (edgeAt t) (named g)
+      (λ x y hx hy q.
+      let d : edgeAt s x y ≡ 1 → ⊥ = λ z. first-past (first-past f .1) .0 (x, hx, y, hy, q, z) in
+      omega (arith, edge-le s x y))
+      (λ x y hx hy q. sym (fresh .bits x y hx hy ∙ ap (λ b. marked true b (edgeAt s x y)) q))
+      i j _ _ (valid .counts i j hi hj)
+      (paths-cong n (after true) (edgeAt t) (λ x y hx hy. sym (fresh .bits x y hx hy)) i j _ (fresh .counts i j hi hj))
+  changed false f fresh =
+      paths-using n (after false) (edgeAt s) (named g)
+      (λ x y hx hy q. ap (λ b. marked false b (edgeAt s x y)) q)
+      (λ x y hx hy q. ap (λ b. marked false b (edgeAt s x y)) q)
+      i j _ _ (fresh .counts i j hi hj) (valid .counts i j hi hj)
+
+-- RISE AND FALL: on a valid sheet an accepted insertion raises each count by the number of paths afterwards that use an inserted edge, and
+-- an accepted deletion lowers it by the number of paths before that use a deleted edge
+pub edit-changes : (n : ℕ) (s : List ℕ) → Valid n s → (e : Edit) → editAnswer e s .number ≡ 0
+    → (i j : ℕ) → i < n → j < n → Changed (e .inserts) n s (e .edges) (editAfter e s) i j
+edit-changes n s valid e q i j hi hj =
+    let m = opened n s in
+    let f = subst (First (modelConditions m e)) q (number-first m s (valid-modelled valid) e) in
+    let a = accepted-modelled m s (valid-modelled valid) e f in
+    let p = passed e s (¬ (e .vertices ≡ n)) (edgeAt s) (Cycle n (effect m e .edge)) f in
+    let t : editWords e s ≡ editAfter e s = sym (ap (λ k. decided k (editWords e s) s) q) in
+    let x : First (effects (e .inserts) n (e .edges) (edgeAt s) (Cycle n (effect m e .edge))) 0 =
+    subst (λ k. First (effects (e .inserts) k (e .edges) (edgeAt s) (Cycle n (effect m e .edge))) 0) (a .0) (p .effects) in
+    changed n s valid (e .edges) (editAfter e s) i j hi hj (e .inserts) x (subst (Fresh (effect m e)) t (a .1 .fresh))

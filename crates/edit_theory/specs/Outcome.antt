@@ -1,0 +1,96 @@
+-- What an edit answers and leaves, for every edit and all words, valid or not: what the contracts of the four calls cite. Definitions
+-- only. Assumes nothing.
+use mathlib.Core.Bool.{Bool, true, false, _&&_, _||_}
+use mathlib.Core.List.{List, [], _∷_}
+use Prim.Native.Nat.{ℕ, zero, suc, _+_, _*_, _%_, _^_}
+use lib.Dec.{ltb, leb, eqb}
+use lib.ListN.{length}
+use Rattle.word.specs.Bit.{bit, hasBit, ofBits}
+use Rattle.word.specs.Wrap.{minus}
+use Rattle.graph.specs.Update.{fromSum, toSum, Closes}
+use Rattle.sheet.specs.declared.answer.Answer.{Answer}
+use Rattle.sheet.specs.Table.{_gives_, Conditions, Tests, firstTrue}
+use Rattle.sheet.specs.Answers.{decided, answered}
+use Rattle.sheet.specs.Layout.{countAt, edgeAt, setBits, redone}
+use Rattle.sheet.specs.Conditions.{BadLength, vertexTests, sizedTests}
+use Rattle.edit_theory.specs.Edit.{Edges, one, at, Edit, vertexOf, predecessorsOf, successorsOf, namedAt, marked}
+use Rattle.edit_theory.specs.Table.{table}
+
+-- ---- the refusals
+
+-- whether f is true of some number below n
+unfoldable pub some : ℕ → (ℕ → Bool) → Bool
+some zero f = false
+some (suc n) f = some n f || f n
+
+-- 3 and 4, and then the tests l
+abbrev pub arguedTests : ℕ → Edges → Tests → Tests
+arguedTests n (one u v) l = vertexTests n u v l
+arguedTests n (at v a b) l = leb n v gives 3 ∷ (leb (2 ^ n) a || leb (2 ^ n) b) gives 4 ∷ l
+
+-- whether f is true of some edge at v, by the masks a and b
+unfoldable pub someEdge : ℕ → ℕ → ℕ → ℕ → (ℕ → ℕ → Bool) → Bool
+someEdge n v a b f = some n (λ i. some n (λ j. namedAt v a b i j && f i j))
+
+module _ (n : ℕ) (s : List ℕ) (v a b : ℕ) where
+  -- whether the counts show a path that the edges would close to a cycle: from v to a predecessor, from a successor to v, or from a
+  -- successor to a predecessor
+  unfoldable pub closes : Bool
+  closes =
+      some n (λ k. hasBit a k && ltb 0 (countAt n s v k))
+      || (some n (λ k. hasBit b k && ltb 0 (countAt n s k v))
+      || some n (λ i. hasBit b i && some n (λ j. hasBit a j && ltb 0 (countAt n s i j))))
+
+  -- 5, 6 and 8 of an insertion, 7 of a deletion
+  abbrev pub effectTests : Bool → Tests
+  effectTests true = someEdge n v a b eqb gives 5 ∷ someEdge n v a b (λ i j. eqb (edgeAt s i j) 1) gives 6 ∷ closes gives 8 ∷ []
+  effectTests false = someEdge n v a b (λ i j. eqb (edgeAt s i j) 0) gives 7 ∷ []
+
+-- ---- the words
+
+-- row i, bit by bit
+unfoldable pub editedRow : Bool → List ℕ → ℕ → ℕ → ℕ → ℕ → ℕ
+editedRow inserts s v a b i = ofBits (λ j. marked inserts (namedAt v a b i j) (edgeAt s i j))
+
+-- what becomes of the count c, modulo 2 ^ 64, where x is the count from i to v, y that from v to j, and F and T are those of document 01
+unfoldable pub editedBy : Bool → ℕ → ℕ → ℕ → ℕ → ℕ → ℕ
+editedBy true c x y F T = (c + (x * T + F * y + F * T)) % 2 ^ 64
+editedBy false c x y F T = minus (c + F * T) (x * T + F * y)
+
+-- the count from i to j, by the counts from before the edit
+unfoldable pub editedCount : Bool → ℕ → List ℕ → ℕ → ℕ → ℕ → ℕ → ℕ → ℕ
+editedCount inserts n s v a b i j =
+    let C = countAt n s in
+    editedBy inserts (C i j) (C i v) (C v j) (fromSum n C (bit a) i) (toSum n C (bit b) j)
+
+unfoldable pub edited : Bool → ℕ → List ℕ → ℕ → ℕ → ℕ → List ℕ
+edited inserts n s v a b = redone n (editedRow inserts s v a b) (editedCount inserts n s v a b) s
+
+-- ---- the calls
+
+module _ (e : Edit) (s : List ℕ) where
+  -- the conditions on s; whether a cycle would close is judged by the counts
+  abbrev pub editConditions : Conditions
+  editConditions =
+      table e (BadLength (e .vertices) s) (edgeAt s)
+      (Closes (e .vertices) (countAt (e .vertices) s) (vertexOf (e .edges)) (bit (predecessorsOf (e .edges))) (bit (successorsOf (e .edges))))
+
+  abbrev pub editTests : Tests
+  editTests =
+      sizedTests (e .vertices) (length s)
+      (arguedTests (e .vertices) (e .edges)
+      (effectTests (e .vertices) s (vertexOf (e .edges)) (predecessorsOf (e .edges)) (successorsOf (e .edges)) (e .inserts)))
+
+  abbrev pub editNumber : ℕ
+  editNumber = firstTrue editTests
+
+  abbrev pub editWords : List ℕ
+  editWords = edited (e .inserts) (e .vertices) s (vertexOf (e .edges)) (predecessorsOf (e .edges)) (successorsOf (e .edges))
+
+  -- what e answers on s
+  abbrev pub editAnswer : Answer
+  editAnswer = answered editNumber (setBits (e .vertices) editWords)
+
+  -- what e leaves of s
+  abbrev pub editAfter : List ℕ
+  editAfter = decided editNumber editWords s

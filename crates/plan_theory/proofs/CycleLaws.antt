@@ -1,0 +1,73 @@
+-- Which insertions of one edge close a cycle by the model, and which lists of records stop at one. Assumes nothing.
+use mathlib.Core.Path.{_≡_, refl, sym, subst}
+use mathlib.Core.Logic.{inl}
+use mathlib.Core.Bool.{true, false}
+use mathlib.Core.List.{List, _∷_, _++_}
+use Prim.Native.Nat.{ℕ, suc}
+use native.Mathlib.Omega.{arith}
+use lib.ListN.{length}
+use Rattle.record.specs.declared.Record.{Record}
+use Rattle.record.specs.declared.Record.the-variants.{Insert, Delete, Malformed}
+use Rattle.sheet.specs.Table.{First}
+use Rattle.sheet.specs.Conditions.{BadVertices}
+use Rattle.sheet.proofs.TableLaws.{first-other, first-last}
+use Rattle.edit_theory.specs.Edit.{insertEdge, deleteEdge}
+use Rattle.edit_theory.specs.Model.{Model, modelConditions}
+use Rattle.edit_theory.proofs.NamedLaws.{some-one}
+use Rattle.plan_theory.specs.Taken.{RecordNumber, Stops, Closing, ClosesAt}
+use Rattle.plan_theory.proofs.EffectLaws.{edge-effects, insert-first}
+use Rattle.plan_theory.proofs.AppliedLaws.{taken-vertices}
+
+module _ (m : Model) (u v : ℕ) where
+  insert-closing : First (modelConditions m (insertEdge (m .vertices) u v)) 8 → Closing (m .vertices) m u v
+  insert-closing f =
+      let a = edge-effects m u v true 8 (omega arith) f in
+      let b = first-other (λ e. omega (arith, e)) (a .2) in
+      let c = first-other (λ e. omega (arith, e)) (b .1) in
+      record {
+        from = a .0;
+        to = a .1;
+        apart = λ e. b .0 (some-one (m .vertices) u v (λ i j. i ≡ j) (a .0) (a .1) .1 e);
+        new = λ e. c .0 (some-one (m .vertices) u v (λ i j. m .edge i j ≡ 1) (a .0) (a .1) .1 e);
+        cycle = first-last (c .1) .0 refl;
+      }
+
+  closing-insert : ¬ (BadVertices (m .vertices)) → Closing (m .vertices) m u v → First (modelConditions m (insertEdge (m .vertices) u v)) 8
+  closing-insert few c = insert-first m u v few (c .from) (c .to) (c .apart) (c .new) 8 (inl (c .cycle, refl))
+
+  delete-never : ¬ (First (modelConditions m (deleteEdge (m .vertices) u v)) 8)
+  delete-never f = omega (arith, first-other (λ e. omega (arith, e)) (edge-effects m u v false 8 (omega arith) f .2) .1)
+
+-- ---- lists of records
+
+pub stops-closes : (m : Model) (l : List Record) (p : ℕ) → Stops m l 8 p → ClosesAt m l
+stops-closes m l p o = go (o .at) (o .split) (o .number)
+  where
+    go : (x : Record) → l ≡ o .before ++ (x ∷ o .rest) → RecordNumber (o .model) x 8 → ClosesAt m l
+    go (Insert u v) e f = record {
+      before = o .before;
+      u = u;
+      v = v;
+      rest = o .rest;
+      split = e;
+      model = o .model;
+      taken = o .taken;
+      closing = subst (λ n. Closing n (o .model) u v) (taken-vertices (o .before) m (o .model) (o .taken)) (insert-closing (o .model) u v f);
+    }
+    go (Delete u v) e f = absurd (delete-never (o .model) u v f)
+    go Malformed e f = absurd (omega (arith, f))
+
+pub closes-stops : (m : Model) (l : List Record) → ¬ (BadVertices (m .vertices)) → (c : ClosesAt m l) → Stops m l 8 (suc (length (c .before)))
+closes-stops m l few c =
+    let q = taken-vertices (c .before) m (c .model) (c .taken) in
+    record {
+      before = c .before;
+      at = Insert (c .u) (c .v);
+      rest = c .rest;
+      split = c .split;
+      place = refl;
+      model = c .model;
+      taken = c .taken;
+      number = closing-insert (c .model) (c .u) (c .v) (rw q few) (subst (λ n. Closing n (c .model) (c .u) (c .v)) (sym q) (c .closing));
+      refused = λ e. omega (arith, e);
+    }

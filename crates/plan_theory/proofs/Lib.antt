@@ -1,0 +1,10 @@
+pub mod Examples
+pub mod Meaning
+pub mod RoundTrip
+pub mod CycleLaws
+pub mod AppliedLaws
+pub mod PlanOfLaws
+pub mod OrderLaws
+pub mod PlaceLaws
+pub mod RecordsLaws
+pub mod EffectLaws

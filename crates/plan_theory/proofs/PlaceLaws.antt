@@ -1,0 +1,42 @@
+-- The bytes of a plan that the refusal 14 points at. Assumes nothing.
+use mathlib.Core.Path.{_≡_, refl, sym, _∙_}
+use mathlib.Core.Bool.{Bool, true, false}
+use mathlib.Core.List.{List}
+use Prim.Native.Nat.{ℕ, suc, _*_, _≤_}
+use native.Mathlib.Omega.{arith}
+use lib.ListN.{length, take, drop}
+use Rattle.record.specs.declared.Record.{Record}
+use Rattle.record.specs.declared.Record.the-variants.{Insert, Delete, Malformed}
+use Rattle.record.specs.Record.{OfForm}
+use Rattle.record.proofs.RecordLaws.{malformed-iff}
+use Rattle.sheet.specs.Table.{First}
+use Rattle.sheet.proofs.TableLaws.{first-other}
+use Rattle.edit_theory.specs.Edit.{one, edgeEdit}
+use Rattle.edit_theory.specs.Table.{effects}
+use Rattle.edit_theory.specs.Model.{Model, modelConditions}
+use Rattle.plan_theory.specs.Records.{records}
+use Rattle.plan_theory.specs.Taken.{RecordNumber, Stops}
+use Rattle.plan_theory.proofs.RecordsLaws.{records-split}
+use Rattle.plan_theory.proofs.EffectLaws.{edge-effects}
+
+-- no edit of one edge has this number
+edit-never : (m : Model) (inserts : Bool) (u v : ℕ) → ¬ (First (modelConditions m (edgeEdit inserts (m .vertices) u v)) 14)
+edit-never m inserts u v f =
+    effect-never inserts (m .edge) _ (edge-effects m u v inserts 14 (omega arith) f .2)
+  where
+    effect-never : (b : Bool) (g : ℕ → ℕ → ℕ) (C : Type 0) → ¬ (First (effects b (m .vertices) (one u v) g C) 14)
+    effect-never true g C h =
+        omega (arith, first-other (λ e. omega (arith, e)) (first-other (λ e. omega (arith, e)) (first-other (λ e. omega (arith, e)) h .1) .1) .1)
+    effect-never false g C h = omega (arith, first-other (λ e. omega (arith, e)) h .1)
+
+-- the 8 bytes at the place where 14 stops are not of the form
+pub stops-malformed : (m : Model) (plan : List ℕ) (p : ℕ) → Stops m (records plan) 14 p
+    → (k : ℕ) × (p ≡ suc k) × (8 * suc k ≤ length plan) × (¬ (OfForm (take 8 (drop (8 * k) plan))))
+stops-malformed m plan p o =
+    let r = records-split plan (o .before) (o .rest) (o .at) (o .split) in
+    (length (o .before), o .place, r .0, malformed-iff _ .0 (sym (r .1) ∙ only (o .at) (o .number)))
+  where
+    only : (x : Record) → RecordNumber (o .model) x 14 → x ≡ Malformed
+    only (Insert u v) f = absurd (edit-never (o .model) true u v f)
+    only (Delete u v) f = absurd (edit-never (o .model) false u v f)
+    only Malformed f = refl

@@ -1,0 +1,215 @@
+-- THE ROUND TRIP: what is written of a valid sheet is read into an empty one as that very sheet, word for word. Assumes nothing.
+use mathlib.Core.Path.{_≡_, refl, sym, ap, ap₂, subst, _∙_}
+use mathlib.Core.Logic.{_⊎_, inl, inr, _↔_}
+use mathlib.Core.Bool.{true}
+use mathlib.Core.List.{List, [], _∷_}
+use Prim.Native.Nat.{ℕ, suc, _≤_, _<_}
+use native.Mathlib.Decide.{ℕ-discrete}
+use native.Mathlib.Omega.{arith}
+use lib.ListN.{length, take}
+use Rattle.graph.specs.Graph.{_isIn_, Distinct, Edge, Acyclic}
+use Rattle.graph.proofs.Walks.{cycle-widen, cycle-of, reach-refl}
+use Rattle.record.specs.declared.Record.{Record}
+use Rattle.record.specs.declared.Record.the-variants.{Insert, Delete, Malformed}
+use Rattle.sheet.specs.declared.answer.Answer.{Answer}
+use Rattle.sheet.specs.Table.{_gives_, First}
+use Rattle.sheet.specs.Answers.{answer, decided}
+use Rattle.sheet.specs.Layout.{edgeAt, setBits, emptySheet}
+use Rattle.sheet.specs.Valid.{Valid}
+use Rattle.sheet.proofs.TableLaws.{first-only}
+use Rattle.sheet.proofs.ValidLaws.{edge-le, accepted-valid, valid-passed}
+use Rattle.sheet.proofs.Meaning.{empty-edge, empty-valid}
+use Rattle.edit_theory.specs.Edit.{Edit, insertEdge}
+use Rattle.edit_theory.specs.Outcome.{editNumber, editWords}
+use Rattle.edit_theory.specs.Model.{Model, modelConditions}
+use Rattle.edit_theory.proofs.FreshLaws.{Modelled, modelled-edge, valid-modelled, fresh-only}
+use Rattle.edit_theory.proofs.StepLaws.{number-first, accepted-modelled}
+use Rattle.plan_theory.specs.Records.{numberOn, leftBy, Applied, applied}
+use Rattle.plan_theory.specs.PlanOf.{edgeRecords, planOf}
+use Rattle.plan_theory.specs.Calls.{BadPlan, readConditions, appliedPlan, appliedAnswer, ReadPlan, ShortBuffer, WritePlan}
+use Rattle.plan_theory.proofs.Meaning.{write-taken}
+use Rattle.plan_theory.proofs.EffectLaws.{with, with-cases, insert-first}
+use Rattle.plan_theory.proofs.OrderLaws.{edge-records-distinct}
+use Rattle.plan_theory.proofs.AppliedLaws.{applied-next}
+use Rattle.plan_theory.proofs.PlanOfLaws.{edge-records-iff, edge-records-of, insert-only, plan-records, plan-short}
+
+-- ---- one edge more
+
+-- the edges e, and the one from u to v
+with-iff : (e : ℕ → ℕ → ℕ) (u v i j : ℕ) → (with true e u v i j ≡ 1) ↔ (((i ≡ u) × (j ≡ v)) ⊎ (e i j ≡ 1))
+with-iff e u v i j =
+    elim (with-cases true e u v i j) [
+      | inl c ↦ (λ q. inl (c .0, c .1), λ q. c .2)
+      | inr c ↦ (λ q. inr (sym (c .1) ∙ q), λ q. elim q [ inl d ↦ absurd (c .0 d) | inr d ↦ c .1 ∙ d ])
+    ]
+
+-- ---- insertions that are all accepted
+
+-- every record is accepted, and they leave s
+abbrev whole : List ℕ → Applied
+whole s = record { number = 0; place = 0; words = s }
+
+-- the model of n vertices and the edges e
+abbrev model : ℕ → (ℕ → ℕ → ℕ) → Model
+model n e = record { vertices = n; edge = e }
+
+-- q has come through l, to the sheet of the edges e together with those that l inserts
+record Gained (n : ℕ) (e : ℕ → ℕ → ℕ) (l : List Record) (q : Applied) : Type 0 where
+  pub words : List ℕ
+  pub through : q ≡ whole words
+  pub edge : ℕ → ℕ → ℕ
+  pub modelled : Modelled (model n edge) words
+  pub edges : (i j : ℕ) → (edge i j ≡ 1) ↔ ((e i j ≡ 1) ⊎ (Insert i j isIn l))
+
+gained-none : (n : ℕ) (e : ℕ → ℕ → ℕ) (s : List ℕ) → Modelled (model n e) s → Gained n e [] (whole s)
+gained-none n e s m = record {
+  words = s;
+  through = refl;
+  edge = e;
+  modelled = m;
+  edges = λ i j. (λ h. inl h, λ h. elim h [ inl a ↦ a | inr a ↦ absurd a ]);
+}
+
+gained-more : (n : ℕ) (e : ℕ → ℕ → ℕ) (u v : ℕ) (l : List Record) (q : Applied) → Gained n (with true e u v) l q → Gained n e (Insert u v ∷ l) q
+gained-more n e u v l q g = record {
+  words = g .words;
+  through = g .through;
+  edge = g .edge;
+  modelled = g .modelled;
+  edges = λ i j.
+      let p = g .edges i j in
+      let c = with-iff e u v i j in (
+        λ h. elim (p .0 h) [
+          | inl a ↦ elim (c .0 a) [ inl b ↦ inr (inl (ap₂ (λ (x y : ℕ). Insert x y) (b .0) (b .1))) | inr b ↦ inl b ]
+          | inr a ↦ inr (inr a)
+        ],
+        λ h. elim h [
+          | inl a ↦ p .1 (inl (c .1 (inr a)))
+          | inr a ↦ elim a [ inl b ↦ p .1 (inl (c .1 (inl (insert-only i j u v b)))) | inr b ↦ p .1 (inr b) ]
+        ],
+      );
+}
+
+module _ (n : ℕ) (w : ℕ → ℕ → ℕ) where
+  -- every edge of e is one of w
+  abbrev Within : (ℕ → ℕ → ℕ) → Type 0
+  Within e = (i j : ℕ) → i < n → j < n → Edge n e i j → Edge n w i j
+
+  -- x inserts an edge of w that is not one of e
+  abbrev New : (ℕ → ℕ → ℕ) → Record → Type 0
+  New e (Insert u v) = (u < n) × (v < n) × Edge n w u v × (e u v ≡ 0)
+  New e (Delete u v) = ⊥
+  New e Malformed = ⊥
+
+  with-within : (e : ℕ → ℕ → ℕ) (u v : ℕ) → Edge n w u v → Within e → Within (with true e u v)
+  with-within e u v h within i j hi hj p =
+      elim (with-cases true e u v i j) [ inl c ↦ rw (c .0, c .1) h | inr c ↦ within i j hi hj (rw (c .1) at p) ]
+
+  with-new : (e : ℕ → ℕ → ℕ) (u v : ℕ) (x : Record) → ¬ (x ≡ Insert u v) → New e x → New (with true e u v) x
+  with-new e u v (Insert i j) d (hi, hj, h, z) =
+      (hi, hj, h, elim (with-cases true e u v i j) [ inl c ↦ absurd (d (ap₂ (λ (x y : ℕ). Insert x y) (c .0) (c .1))) | inr c ↦ c .1 ∙ z ])
+  with-new e u v (Delete i j) d h = h
+  with-new e u v Malformed d h = h
+
+  module _ (acyclic : Acyclic n w) where
+    no-loop : (u : ℕ) → u < n → ¬ (Edge n w u u)
+    no-loop u hu h = acyclic (cycle-of n w u u hu hu h (reach-refl n w u))
+
+    -- inserting one is accepted: a cycle would be one of w
+    new-passes : (e : ℕ → ℕ → ℕ) (u v : ℕ) → 1 ≤ n → n ≤ 64 → Within e → New e (Insert u v)
+        → First (modelConditions (model n e) (insertEdge n u v)) 0
+    new-passes e u v low high within (hu, hv, h, z) =
+        insert-first (model n e) u v (λ c. elim c [ inl l ↦ omega arith | inr l ↦ omega arith ]) hu hv
+        (λ q. no-loop u hu (rw (← q) at h)) (λ q. omega (arith, z, q)) 0
+        (inr (λ c. acyclic (cycle-widen n (with true e u v) w (with-within e u v h within) c), refl))
+
+    new-accepted : (e : ℕ → ℕ → ℕ) (s : List ℕ) (u v : ℕ) → Modelled (model n e) s → Within e → New e (Insert u v)
+        → (numberOn n s (Insert u v) ≡ 0) × Modelled (model n (with true e u v)) (leftBy n s (Insert u v))
+    unfolding numberOn
+    new-accepted e s u v m within h =
+        let x : Edit = insertEdge n u v in
+        let f = new-passes e u v (m .low) (m .high) within h in
+        let z : editNumber x s ≡ 0 = first-only (modelConditions (model n e) x) (editNumber x s) 0 (number-first (model n e) s m x) f in
+        (z, subst (Modelled (model n (with true e u v))) (sym (ap (λ (k : ℕ). decided k (editWords x s) s) z)) (accepted-modelled (model n e) s m x f .1))
+
+    -- records that insert edges of w, each once and none of them there, are all accepted
+    inserts-applied : (l : List Record) (e : ℕ → ℕ → ℕ) (s : List ℕ) (p : ℕ) → Distinct l → ((x : Record) → x isIn l → New e x)
+        → Within e → Modelled (model n e) s → Gained n e l (applied n l s p)
+    unfolding applied
+    inserts-applied [] e s p d new within m = gained-none n e s m
+    inserts-applied (Insert u v ∷ l) e s p d new within m =
+        let h = new (Insert u v) (inl refl) in
+        let a = new-accepted e s u v m within h in
+        subst (Gained n e (Insert u v ∷ l)) (sym (applied-next n (Insert u v) l s p (a .0)))
+        (gained-more n e u v l _
+        (inserts-applied l (with true e u v) (leftBy n s (Insert u v)) (suc p) (d .1)
+        (λ x q. with-new e u v x (λ c. d .0 (rw c at q)) (new x (inr q))) (with-within e u v (h .2) within) (a .1)))
+    inserts-applied (Delete u v ∷ l) e s p d new within m = absurd (new (Delete u v) (inl refl))
+    inserts-applied (Malformed ∷ l) e s p d new within m = absurd (new Malformed (inl refl))
+
+-- ---- the plan of a valid sheet, read into the empty one
+
+module _ (n : ℕ) (s : List ℕ) (valid : Valid n s) where
+  empty-good : Valid n (emptySheet n)
+  empty-good = empty-valid n (valid .shape .low) (valid .shape .high)
+
+  -- its edges: none
+  abbrev none : ℕ → ℕ → ℕ
+  none = edgeAt (emptySheet n)
+
+  -- each record of the plan inserts an edge of s that is not there yet
+  plan-new : (x : Record) → x isIn edgeRecords n s → New n (edgeAt s) none x
+  plan-new x m =
+      let r = edge-records-of n s x m in
+      rw (r .4) (r .1, r .3, omega (arith, r .5), empty-edge n (r .0) (r .2) (r .1) (r .3))
+
+  plan-gained : Gained n none (edgeRecords n s) (appliedPlan n (emptySheet n) (planOf n s))
+  plan-gained =
+      subst (λ l. Gained n none (edgeRecords n s) (applied n l (emptySheet n) 1)) (sym (plan-records n s (valid .shape .high)))
+      (inserts-applied n (edgeAt s) (valid .acyclic) (edgeRecords n s) none (emptySheet n) 1 (edge-records-distinct n s) plan-new
+      (λ i j hi hj p. absurd (omega (arith, p, empty-edge n i j hi hj))) (valid-modelled empty-good))
+
+  -- so its edges are those of s, and it is s
+  gained-iff : (i j : ℕ) → i < n → j < n → (plan-gained .edge i j ≡ 1) ↔ (edgeAt s i j ≡ 1)
+  gained-iff i j hi hj =
+      let p = plan-gained .edges i j in
+      let q = edge-records-iff n s i j hi hj in (
+        λ h. elim (p .0 h) [ inl a ↦ absurd (omega (arith, a, empty-edge n i j hi hj)) | inr a ↦ q .0 a ],
+        λ h. p .1 (inr (q .1 h)),
+      )
+
+  gained-edge : (i j : ℕ) → i < n → j < n → plan-gained .edge i j ≡ edgeAt s i j
+  gained-edge i j hi hj =
+      let p = gained-iff i j hi hj in
+      elim (ℕ-discrete (edgeAt s i j) 1) [
+        | yes e ↦ p .1 e ∙ sym e
+        | no d ↦
+            let c : plan-gained .edge i j ≡ 1 → ⊥ = λ h. d (p .0 h) in
+            omega (arith, modelled-edge (plan-gained .modelled) i j hi hj, edge-le s i j)
+      ]
+
+  plan-applied : appliedPlan n (emptySheet n) (planOf n s) ≡ whole s
+  plan-applied =
+      plan-gained .through
+      ∙ ap whole (fresh-only n (plan-gained .edge) (edgeAt s) _ s gained-edge (plan-gained .modelled .fresh) (valid-modelled valid .fresh))
+
+  plan-passed : First (readConditions n (emptySheet n) (planOf n s)) 0
+  plan-passed =
+      let q = plan-short n s valid in
+      valid-passed n (emptySheet n) empty-good (BadPlan (planOf n s) gives 13 ∷ []) 0
+      (inr (λ c. elim c [ inl d ↦ d (q .1) | inr l ↦ omega (arith, q .0) ], refl))
+
+  -- THE THEOREM: reading what was written of a valid sheet into the empty sheet of as many vertices gives that sheet, word for word
+  pub round-trip : (r : Answer) (t : List ℕ) → ReadPlan n (emptySheet n) (planOf n s) r t → (r ≡ answer 0 0 (setBits n s)) × (t ≡ s)
+  round-trip r t h =
+      let z = first-only (readConditions n (emptySheet n) (planOf n s)) (h .k) 0 (h .first) plan-passed in
+      let e : r ≡ answer 0 0 (setBits n s)
+      = h .answers ∙ ap₂ (λ (k : ℕ) (q : Applied). decided k (appliedAnswer n q) (answer k 0 0)) z plan-applied in
+      (e, h .leaves ∙ ap₂ (λ (x : Answer) (q : Applied). decided (x .number) (q .words) (emptySheet n)) e plan-applied)
+
+-- and so by the two calls: what write_plan has written, read_plan reads into the empty sheet
+pub round-trip-buffer : (n : ℕ) (s p : List ℕ) (r : Answer) (q : List ℕ) → WritePlan n s p r q → r .number ≡ 0
+    → (r′ : Answer) (t : List ℕ) → ReadPlan n (emptySheet n) (take (r .value) q) r′ t → (r′ ≡ answer 0 0 (setBits n s)) × (t ≡ s)
+round-trip-buffer n s p r q h z r′ t g =
+    let v = accepted-valid n s (ShortBuffer n s (length p) gives 10 ∷ []) (rw z at (h .number)) in
+    round-trip n s v r′ t (rw (write-taken n s p r q h z) at g)

@@ -1,0 +1,62 @@
+-- `rank`: the number of a path among those between its ends (document 01: the number of a route): its conditions by the table of
+-- document 01, in their order, and its answer. Definitions only. Assumes nothing.
+use mathlib.Core.Path.{_≡_}
+use mathlib.Core.Logic.{_⊎_}
+use mathlib.Core.Bool.{Bool, false, _||_}
+use mathlib.Core.List.{List, [], _∷_}
+use Prim.Native.Nat.{ℕ, _%_, _^_, _<_}
+use lib.Dec.{ltb, leb, eqb}
+use lib.ListN.{length}
+use Rattle.graph.specs.Graph.{_isIn_}
+use Rattle.sheet.specs.declared.answer.Answer.{Answer}
+use Rattle.sheet.specs.Table.{_gives_, Conditions, Tests, firstTrue}
+use Rattle.sheet.specs.Answers.{answered}
+use Rattle.sheet.specs.Layout.{countAt, edgeAt}
+use Rattle.sheet.specs.Conditions.{NoVertex, sized, sizedTests}
+use Rattle.query_theory.specs.Number.{passedOver, end}
+
+-- 3: some entry of the list, wherever it stands, is n or more
+abbrev pub SomeNoVertex : ℕ → List ℕ → Type 0
+SomeNoVertex n p = (x : ℕ) × (x isIn p) × NoVertex n x
+
+unfoldable pub someNoVertex : ℕ → List ℕ → Bool
+someNoVertex n [] = false
+someNoVertex n (x ∷ p) = leb n x || someNoVertex n p
+
+-- no edge runs from some entry to the next
+abbrev pub Gap : List ℕ → List ℕ → Type 0
+Gap s [] = ⊥
+Gap s (x ∷ []) = ⊥
+Gap s (x ∷ y ∷ p) = (edgeAt s x y ≡ 0) ⊎ Gap s (y ∷ p)
+
+unfoldable pub gap : List ℕ → List ℕ → Bool
+gap s [] = false
+gap s (x ∷ []) = false
+gap s (x ∷ y ∷ p) = eqb (edgeAt s x y) 0 || gap s (y ∷ p)
+
+-- 12: no vertices, more than n, or two neighbours without an edge
+abbrev pub Broken : ℕ → List ℕ → List ℕ → Type 0
+Broken n s p = (length p ≡ 0) ⊎ (n < length p) ⊎ Gap s p
+
+unfoldable pub broken : ℕ → List ℕ → List ℕ → Bool
+broken n s p = eqb (length p) 0 || (ltb n (length p) || gap s p)
+
+-- of a path as it is given
+abbrev pub pathConditions : ℕ → List ℕ → List ℕ → Conditions
+pathConditions n s p = SomeNoVertex n p gives 3 ∷ Broken n s p gives 12 ∷ []
+
+abbrev pub pathTests : ℕ → List ℕ → List ℕ → Tests
+pathTests n s p = someNoVertex n p gives 3 ∷ broken n s p gives 12 ∷ []
+
+abbrev pub rankConditions : ℕ → List ℕ → List ℕ → Conditions
+rankConditions n s p = sized n s (pathConditions n s p)
+
+abbrev pub rankNumber : ℕ → List ℕ → List ℕ → ℕ
+rankNumber n s p = firstTrue (sizedTests n (length s) (pathTests n s p))
+
+-- the sum of the counts to the end of the path that are passed over on it, over a sheet as it stands
+abbrev pub pathNumber : ℕ → List ℕ → List ℕ → ℕ
+pathNumber n s p = passedOver (edgeAt s) (countAt n s) (end p) p
+
+abbrev pub rankAnswer : ℕ → List ℕ → List ℕ → Answer
+rankAnswer n s p = answered (rankNumber n s p) (pathNumber n s p % 2 ^ 64)

@@ -1,0 +1,3 @@
+pub mod SheetOf
+pub mod Starred
+pub mod EveryN
