@@ -18,7 +18,7 @@ use Rattle.edit_theory.proofs.NamedLaws.{marked-le}
 
 -- ---- the edges that are named
 
-pub has-zero : (j : ℕ) → hasBit 0 j ≡ false
+has-zero : (j : ℕ) → hasBit 0 j ≡ false
 has-zero j = rw (bit-zero j)
 
 pub has-pow : (v j : ℕ) → hasBit (2 ^ v) j ≡ eqb j v

@@ -15,43 +15,43 @@ use Rattle.graph.proofs.Through.{paths-through}
 
 -- ---- from 0 to 1 and 2, and from each of these to 3
 
-diamond : ℕ → ℕ → ℕ
+pub diamond : ℕ → ℕ → ℕ
 diamond i j = getD (getD ((0 ∷ 1 ∷ 1 ∷ 0 ∷ []) ∷ (0 ∷ 0 ∷ 0 ∷ 1 ∷ []) ∷ (0 ∷ 0 ∷ 0 ∷ 1 ∷ []) ∷ []) i []) j 0
 
-diamond-across : pathCount 4 diamond 0 3 ≡ 2
+pub diamond-across : pathCount 4 diamond 0 3 ≡ 2
 unfolding diamond pathCount walks sum delta
 diamond-across = refl
 
-diamond-back : pathCount 4 diamond 3 0 ≡ 0
+pub diamond-back : pathCount 4 diamond 3 0 ≡ 0
 unfolding diamond pathCount walks sum delta
 diamond-back = refl
 
-diamond-self : pathCount 4 diamond 1 1 ≡ 1
+pub diamond-self : pathCount 4 diamond 1 1 ≡ 1
 unfolding diamond pathCount walks sum delta
 diamond-self = refl
 
 -- one of the two paths across uses the edge from 0 to 1
-diamond-through : pathCount 4 diamond 0 0 * pathCount 4 diamond 1 3 ≡ 1
+pub diamond-through : pathCount 4 diamond 0 0 * pathCount 4 diamond 1 3 ≡ 1
 unfolding diamond pathCount walks sum delta
 diamond-through = refl
 
 -- ---- two edges from 0 to 1 and three from 1 to 2: each choice of edges counts
 
-parallel : ℕ → ℕ → ℕ
+pub parallel : ℕ → ℕ → ℕ
 parallel i j = getD (getD ((0 ∷ 2 ∷ []) ∷ (0 ∷ 0 ∷ 3 ∷ []) ∷ []) i []) j 0
 
-parallel-across : pathCount 3 parallel 0 2 ≡ 6
+pub parallel-across : pathCount 3 parallel 0 2 ≡ 6
 unfolding parallel pathCount walks sum delta
 parallel-across = refl
 
 -- ---- an edge from 0 to itself is a cycle
 
-loop-cycle : Cycle 1 (λ i j. 1)
+pub loop-cycle : Cycle 1 (λ i j. 1)
 loop-cycle = record { at = 0; next = 0; rest = []; bounded = omega arith; back = (omega arith, omega arith, refl) }
 
 -- ---- the complete graph: an edge from each vertex to each greater one
 
-complete : ℕ → ℕ → ℕ
+pub complete : ℕ → ℕ → ℕ
 complete i zero = 0
 complete zero (suc j) = 1
 complete (suc i) (suc j) = complete i j
@@ -83,7 +83,7 @@ unfolding complete pathCount walks sum delta
 complete-count = refl
 
 -- it has as many paths as `bound` of proofs/Bound.antt allows
-complete-exactly : Exactly (IsPath 5 complete 0 4) (2 ^ (5 - 2))
+pub complete-exactly : Exactly (IsPath 5 complete 0 4) (2 ^ (5 - 2))
 complete-exactly = rw complete-count at (pathCount-exact 5 complete (complete-acyclic 5) (λ i j hi hj. complete-le i j) 0 4 (omega arith))
 
 complete-through-count : pathCount 6 complete 0 2 * pathCount 6 complete 3 5 ≡ 4
@@ -91,7 +91,7 @@ unfolding complete pathCount walks sum delta
 complete-through-count = refl
 
 -- two paths lead to the tail of the edge from 2 to 3 and two from its head: four use it
-complete-through : Exactly (λ p. IsPath 6 complete 0 5 p × Uses (oneEdge 2 3) p) 4
+pub complete-through : Exactly (λ p. IsPath 6 complete 0 5 p × Uses (oneEdge 2 3) p) 4
 unfolding complete
 complete-through =
     rw complete-through-count at

@@ -12,14 +12,14 @@ use Rattle.edit_theory.specs.Edit.{Edit, insertEdge, insertEdgesAt}
 use Rattle.edit_theory.specs.Outcome.{some, someEdge, closes, editedRow, editedBy, editedCount, edited}
 use Rattle.model.specs.Run.{answers, after}
 
-edits : List Edit
+pub edits : List Edit
 edits = insertEdgesAt 5 0 0 6 ∷ insertEdge 4 1 3 ∷ insertEdge 5 1 3 ∷ insertEdge 5 3 0 ∷ insertEdge 5 2 3 ∷ []
 
-answered-so : answers edits (emptySheet 5) ≡ answer 0 0 2 ∷ answer 2 0 0 ∷ answer 0 0 3 ∷ answer 8 0 0 ∷ answer 0 0 4 ∷ []
+pub answered-so : answers edits (emptySheet 5) ≡ answer 0 0 2 ∷ answer 2 0 0 ∷ answer 0 0 3 ∷ answer 8 0 0 ∷ answer 0 0 4 ∷ []
 unfolding edits answers emptySheet firstTrue some someEdge closes edited editedRow editedCount editedBy redone redoneWord build ofBits fromSum toSum sum delta setBits bitCount
 answered-so = refl
 
-left-so : after edits (emptySheet 5)
+pub left-so : after edits (emptySheet 5)
     ≡ 6 ∷ 8 ∷ 8 ∷ 0 ∷ 0
     ∷ 1 ∷ 1 ∷ 1 ∷ 2 ∷ 0
     ∷ 0 ∷ 1 ∷ 0 ∷ 1 ∷ 0

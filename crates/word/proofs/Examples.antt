@@ -6,46 +6,46 @@ use Rattle.sums.specs.Sum.{sum}
 use Rattle.word.specs.Bit.{bit, hasBit, withBit, withoutBit, bitCount}
 use Rattle.word.specs.Wrap.{minus}
 
-bit-lowest : bit 6 0 ≡ 0
+pub bit-lowest : bit 6 0 ≡ 0
 bit-lowest = refl
 
-bit-highest : bit (2 ^ 63) 63 ≡ 1
+pub bit-highest : bit (2 ^ 63) 63 ≡ 1
 bit-highest = refl
 
-has-second : hasBit 6 1 ≡ true
+pub has-second : hasBit 6 1 ≡ true
 has-second = refl
 
-has-none : hasBit 6 3 ≡ false
+pub has-none : hasBit 6 3 ≡ false
 has-none = refl
 
-set-fresh : withBit 4 0 ≡ 5
+pub set-fresh : withBit 4 0 ≡ 5
 unfolding withBit
 set-fresh = refl
 
-set-again : withBit 5 0 ≡ 5
+pub set-again : withBit 5 0 ≡ 5
 unfolding withBit
 set-again = refl
 
-clear-held : withoutBit 5 0 ≡ 4
+pub clear-held : withoutBit 5 0 ≡ 4
 unfolding withoutBit
 clear-held = refl
 
-clear-absent : withoutBit 5 1 ≡ 5
+pub clear-absent : withoutBit 5 1 ≡ 5
 unfolding withoutBit
 clear-absent = refl
 
-count-three : bitCount 7 ≡ 3
+pub count-three : bitCount 7 ≡ 3
 unfolding bitCount sum
 count-three = refl
 
-count-all : bitCount (2 ^ 64 - 1) ≡ 64
+pub count-all : bitCount (2 ^ 64 - 1) ≡ 64
 unfolding bitCount sum
 count-all = refl
 
-minus-less : minus 5 3 ≡ 2
+pub minus-less : minus 5 3 ≡ 2
 unfolding minus
 minus-less = refl
 
-minus-wraps : minus 1 2 ≡ 2 ^ 64 - 1
+pub minus-wraps : minus 1 2 ≡ 2 ^ 64 - 1
 unfolding minus
 minus-wraps = refl
