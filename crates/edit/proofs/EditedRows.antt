@@ -11,7 +11,7 @@ use lib.Bits.{bitAnd, bitOr}
 use lib.ListN.{length, getD, set, length-set}
 use lib.Seq.{getD-set-same, getD-set-other}
 use Rattle.word.proofs.CountLaws.{lowest-lt}
-use Rattle.word.specs.Bit.{bit, hasBit, withoutBit, Lowest}
+use Rattle.word.specs.Bit.{bit, hasBit, withoutBit, Lowest, LowestCleared}
 use Rattle.word.proofs.BitLaws.{bit-cases, bit-clear-same, bit-clear-other, clear-below}
 use Rattle.word.proofs.MaskLaws.{bit-and, bit-or, bit-not}
 use Rattle.sheet.specs.Layout.{size, rowAt, countAt, edgeAt}
@@ -73,9 +73,9 @@ module _ (inserts : Bool) (n : ℕ) (s : List ℕ) (v mask : ℕ) where
             bit-edited inserts (set t i r) v (withoutBit rest i) 0 i j q
             ∙ rw (named-none v (withoutBit rest i) i j, named-none v rest i j, bit-clear-same rest i, l .set, stored, m j q, has-pow v j)
 
-    pub marking-more : (rest′ : ℕ) → rest′ ≡ withoutBit rest i → Marking inserts n s v mask rest′ (set t i r)
+    pub marking-more : (rest′ : ℕ) → LowestCleared rest rest′ → Marking inserts n s v mask rest′ (set t i r)
     marking-more rest′ e =
-        rw e
+        rw (e i l)
         record {
           long = length-set t i r ∙ was .long;
           below = clear-below n rest i (was .below);

@@ -6,7 +6,7 @@ use Prim.Native.Nat.{ℕ, _^_, _<_}
 use native.Mathlib.Decide.{ℕ-discrete}
 use native.Mathlib.Omega.{arith}
 use Rattle.word.proofs.CountLaws.{lowest-lt}
-use Rattle.word.specs.Bit.{bit, withoutBit, Lowest}
+use Rattle.word.specs.Bit.{bit, Lowest, LowestCleared}
 use Rattle.word.proofs.BitLaws.{bit-zero, bit-clear-other, clear-below}
 use Rattle.sheet.specs.Table.{Reflects}
 use Rattle.sheet.proofs.TableLaws.{reflects-true, reflects-none}
@@ -33,9 +33,9 @@ module _ (n mask : ℕ) (P : ℕ → Type 0) where
     pub searching-found : P b → Reflects true (SomeOf n mask P)
     searching-found p = reflects-true (b, searching-below, was .kept b (low .set), p)
 
-    pub searching-more : (r : ℕ) → ¬ (P b) → r ≡ withoutBit rest b → Searching n mask r P
+    pub searching-more : (r : ℕ) → ¬ (P b) → LowestCleared rest r → Searching n mask r P
     searching-more r d e =
-        rw e
+        rw (e b low)
         record {
           below = clear-below n rest b (was .below);
           kept = λ k o. elim (ℕ-discrete k b) [ yes q ↦ rw q (was .kept b (low .set)) | no q ↦ was .kept k (sym (bit-clear-other rest b k q) ∙ o) ];

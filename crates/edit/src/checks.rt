@@ -58,7 +58,7 @@ fn some_into(inserts: bool, n: usize, sheet: &[u64], v: usize, mask: u64) -> boo
         if word::test_bit(clashes(inserts, sheet[i]), v) {
             return true;
         }
-        rest = word::clear_bit(rest, i);
+        rest = word::clear_lowest(rest);
     }
     false
 }
@@ -93,7 +93,7 @@ fn row_meets(n: usize, sheet: &[u64], x: usize, mask: u64) -> bool
         if sheet[base + k] != 0 {
             return true;
         }
-        rest = word::clear_bit(rest, k);
+        rest = word::clear_lowest(rest);
     }
     false
 }
@@ -109,7 +109,7 @@ fn some_meets(n: usize, sheet: &[u64], starts: u64, ends: u64) -> bool
         if row_meets(n, sheet, x, ends) {
             return true;
         }
-        rest = word::clear_bit(rest, x);
+        rest = word::clear_lowest(rest);
     }
     false
 }

@@ -23,7 +23,7 @@ fn mark_into(inserts: bool, n: usize, sheet: &mut [u64], v: usize, mask: u64)
     while rest != 0 {
         let i = word::lowest_bit(rest);
         sheet[i] = mark(inserts, sheet[i], 1 << v);
-        rest = word::clear_bit(rest, i);
+        rest = word::clear_lowest(rest);
     }
 }
 

@@ -4,16 +4,14 @@ ghost use Prim.Native.Nat.{_+_, _≤_, _<_};
 ghost use lib.ListN.{length};
 ghost use Rattle.text.specs.Text.{Put, written};
 ghost use Rattle.sheet.specs.Layout.{Shape};
-ghost use Rattle.plan_theory.specs.PlanOf.{edgeBytes, rowBytes, planOf};
+ghost use Rattle.record.specs.Record.{insertLetter, encoded};
+ghost use Rattle.plan_theory.specs.PlanOf.{rowBytes, planOf};
 
-// The record of the edge from i to j, if there is one, from a place on: the place after it.
-fn write_edge(sheet: &[u64], i: usize, j: usize, plan: &mut [u8], at: usize) -> usize
-    requires { ⌜ (i < length (now sheet)) × (i < 64) × (j < 64) × (at + length (edgeBytes (now sheet) i j) ≤ length (now plan)) ⌝ }
-    ensures { λ r. ⌜ Put (now (plan .entry)) at (edgeBytes (now (sheet .entry)) i j) (now (plan .exit)) r ⌝ }
+// The record of the edge from i to j, from a place on: the place after it.
+fn write_edge(i: usize, j: usize, plan: &mut [u8], at: usize) -> usize
+    requires { ⌜ (i < 64) × (j < 64) × (at + length (encoded insertLetter i j) ≤ length (now plan)) ⌝ }
+    ensures { λ r. ⌜ Put (now (plan .entry)) at (encoded insertLetter i j) (now (plan .exit)) r ⌝ }
 {
-    if !word::test_bit(sheet[i], j) {
-        return at;
-    }
     let bytes = record::encode(b'L', i, j);
     text::put(plan, at, &bytes)
 }
@@ -24,10 +22,10 @@ fn write_row(n: usize, sheet: &[u64], i: usize, plan: &mut [u8], at: usize) -> u
     ensures { λ r. ⌜ Put (now (plan .entry)) at (rowBytes n (now (sheet .entry)) i) (now (plan .exit)) r ⌝ }
 {
     let mut place = at;
-    let mut j = 0;
-    while j < n {
-        place = write_edge(sheet, i, j, plan, place);
-        j += 1;
+    let mut rest = sheet[i] & word::low_bits(n);
+    while rest != 0 {
+        place = write_edge(i, word::lowest_bit(rest), plan, place);
+        rest = word::clear_lowest(rest);
     }
     place
 }

@@ -1,12 +1,14 @@
--- The laws of the checks of the questions: the ways out of `without_number` and `walk_number`, where k is what the check of the ends
--- gave. Assumes nothing.
+-- The laws of the checks of the questions: the ways out of `without_number` and `walk_number`, where k is what the check of the shape,
+-- or for `walk_number` of the shape and the ends, gave. Assumes nothing.
 use mathlib.Core.Path.{_≡_, refl, sym, _∙_}
-use mathlib.Core.Bool.{Bool, true, false}
+use mathlib.Core.Logic.{_⊎_, inl, inr}
+use mathlib.Core.Bool.{Bool, true, false, _||_}
 use mathlib.Core.List.{List, []}
 use Prim.Native.Nat.{ℕ, _≤_, _<_}
 use native.Mathlib.Decide.{ℕ-discrete, decLt}
 use native.Mathlib.Omega.{arith}
 use borrow.Author.Tests.{lt-ltb, le-ltb, le-leb, lt-leb, eq-eqb, ne-eqb}
+use lib.Dec.{leb}
 use lib.ListN.{length}
 use Rattle.word.specs.Bit.{hasBit}
 use Rattle.word.proofs.BitLaws.{has-true, has-false}
@@ -14,11 +16,11 @@ use Rattle.sheet.specs.Table.{Tests, firstTrue}
 use Rattle.sheet.specs.Layout.{Shape, rowAt, countAt, edgeAt}
 use Rattle.sheet.specs.Conditions.{vertexTests, sizedTests}
 use Rattle.sheet.specs.Internal.{shapeNumber, verticesNumber}
-use Rattle.sheet.proofs.TableLaws.{first-here, first-next, first-none, first-stops, first-passes}
-use Rattle.sheet.proofs.ShapeLaws.{sized-passes, vertices-ready}
+use Rattle.sheet.proofs.TableLaws.{reflects-false, reflects-or, reflects-le, first-here, first-next, first-none, first-stops, first-passes}
+use Rattle.sheet.proofs.ShapeLaws.{sized-stops, sized-passes, vertices-ready}
 use Rattle.query_theory.specs.ReachesWithout.{edgeTests, reachesWithoutNumber}
 use Rattle.query_theory.specs.Unrank.{numberTests}
-use Rattle.query.specs.Internal.{beforeWalk}
+use Rattle.query.specs.Internal.{Greater, beforeWalk}
 
 -- ---- two vertices named, and further tests
 
@@ -30,51 +32,71 @@ module _ (n len i j k : ℕ) (e : k ≡ verticesNumber n len i j) where
   named-passes : (ts : Tests) → k ≡ 0 → firstTrue ts ≡ firstTrue (sizedTests n len (vertexTests n i j ts))
   named-passes ts z = sym (first-passes (sizedTests n len (vertexTests n i j [])) ts (omega arith, (omega arith, (omega arith, tt))) (sym e ∙ z))
 
-  -- past it the shape is right
-  named-shape : k ≡ 0 → shapeNumber n len ≡ 0
-  named-shape z =
-      elim (ℕ-discrete (shapeNumber n len) 0) [ yes q ↦ q | no d ↦ absurd (d (sym (first-stops (sizedTests n len []) (vertexTests n i j []) d) ∙ sym e ∙ z)) ]
-
 -- where no test is true, neither is that of the two
 named-zero : (n len i j : ℕ) (ts : Tests) → firstTrue (sizedTests n len (vertexTests n i j ts)) ≡ 0 → verticesNumber n len i j ≡ 0
 named-zero n len i j ts z =
     elim (ℕ-discrete (verticesNumber n len i j) 0) [ yes q ↦ q | no d ↦ absurd (d (named-stops n len i j _ refl ts d ∙ z)) ]
 
--- ---- without_number: l is what the check of the edge's vertices gave, t whether the edge is there
+-- ---- two vertices by the greater of them
 
-module _ (n : ℕ) (s : List ℕ) (i j u v k : ℕ) (ek : k ≡ verticesNumber n (length s) i j) where
-  pub without-ends : (k ≡ 0 → ⊥) → k ≡ reachesWithoutNumber n s i j u v
-  without-ends = named-stops n (length s) i j k ek (vertexTests n u v (edgeTests s u v))
+too-far : (n i j g : ℕ) → Greater i j g → n ≤ g → (leb n i || leb n j) ≡ true
+too-far n i j g greater h =
+    reflects-or (reflects-le n i) (reflects-le n j) .shows
+    (elim (decLt i n) [
+      | no q ↦ inl (omega arith)
+      | yes q ↦ inr (elim (decLt j n) [ yes p ↦ absurd (omega (arith, greater .least n q p)) | no p ↦ omega arith ])
+    ])
 
-  module _ (z : k ≡ 0) (l : ℕ) (el : l ≡ verticesNumber n (length s) u v) where
-    past-ends : firstTrue (sizedTests n (length s) (vertexTests n u v (edgeTests s u v))) ≡ reachesWithoutNumber n s i j u v
-    past-ends =
-        sized-passes n (length s) _ refl (vertexTests n u v (edgeTests s u v)) (named-shape n (length s) i j k ek z)
-        ∙ named-passes n (length s) i j k ek (vertexTests n u v (edgeTests s u v)) z
+near : (n i j g : ℕ) → Greater i j g → g < n → (leb n i || leb n j) ≡ false
+near n i j g greater h =
+    reflects-false (reflects-or (reflects-le n i) (reflects-le n j)) .1
+    (λ c. elim c [ inl l ↦ omega (arith, greater .first) | inr l ↦ omega (arith, greater .second) ])
 
-    pub without-edge : (l ≡ 0 → ⊥) → l ≡ reachesWithoutNumber n s i j u v
-    without-edge d = named-stops n (length s) u v l el (edgeTests s u v) d ∙ past-ends
+-- ---- without_number: m is the greatest of the four vertices, t is whether the edge is there
 
-    module _ (y : l ≡ 0) (t : Bool) (et : t ≡ hasBit (rowAt s u) v) where
-      past-edge : firstTrue (edgeTests s u v) ≡ reachesWithoutNumber n s i j u v
-      past-edge = named-passes n (length s) u v l el (edgeTests s u v) y ∙ past-ends
+module _ (n : ℕ) (s : List ℕ) (i j u v k : ℕ) (ek : k ≡ shapeNumber n (length s)) where
+  pub without-shape : (k ≡ 0 → ⊥) → k ≡ reachesWithoutNumber n s i j u v
+  without-shape d = sym (sized-stops n (length s) k ek (vertexTests n i j (vertexTests n u v (edgeTests s u v))) d)
+
+  module _ (z : k ≡ 0) (a b m : ℕ) (ends : Greater i j a) (edge : Greater u v b) (all : Greater a b m) where
+    past-shape : firstTrue (vertexTests n i j (vertexTests n u v (edgeTests s u v))) ≡ reachesWithoutNumber n s i j u v
+    past-shape = sym (sized-passes n (length s) k ek (vertexTests n i j (vertexTests n u v (edgeTests s u v))) z)
+
+    pub without-vertex : n ≤ m → 3 ≡ reachesWithoutNumber n s i j u v
+    without-vertex h =
+        elim (decLt a n) [
+          | no l ↦ sym (first-here _ _ (too-far n i j a ends (omega arith))) ∙ past-shape
+          | yes l ↦
+              let far : n ≤ b = elim (decLt b n) [ yes q ↦ absurd (omega (arith, all .least n l q)) | no q ↦ omega arith ] in
+              sym (first-next _ _ (near n i j a ends l) ∙ first-here _ _ (too-far n u v b edge far)) ∙ past-shape
+        ]
+
+    module _ (h : m < n) (t : Bool) (et : t ≡ hasBit (rowAt s u) v) where
+      past-vertices : firstTrue (edgeTests s u v) ≡ reachesWithoutNumber n s i j u v
+      past-vertices =
+          sym (first-next _ _ (near n i j a ends (omega (arith, all .first))) ∙ first-next _ _ (near n u v b edge (omega (arith, all .second)))) ∙ past-shape
 
       pub without-absent : t ≡ false → 7 ≡ reachesWithoutNumber n s i j u v
-      without-absent f = sym (first-here _ [] (eq-eqb (edgeAt s u v) 0 (has-false (rowAt s u) v t et f))) ∙ past-edge
+      without-absent f = sym (first-here _ [] (eq-eqb (edgeAt s u v) 0 (has-false (rowAt s u) v t et f))) ∙ past-vertices
 
       pub without-there : t ≡ true → 0 ≡ reachesWithoutNumber n s i j u v
-      without-there h =
-          sym first-none ∙ sym (first-next _ [] (ne-eqb (edgeAt s u v) 0 (λ e. omega (arith, e, has-true (rowAt s u) v t et h)))) ∙ past-edge
+      without-there g =
+          sym first-none ∙ sym (first-next _ [] (ne-eqb (edgeAt s u v) 0 (λ e. omega (arith, e, has-true (rowAt s u) v t et g)))) ∙ past-vertices
 
 -- 0 says that the sheet has the shape and all four vertices
 pub without-ready : (n : ℕ) (s : List ℕ) (i j u v k : ℕ) → k ≡ reachesWithoutNumber n s i j u v → k ≡ 0
     → Shape n s × (i < n) × (j < n) × (u < n) × (v < n)
 without-ready n s i j u v k ek z =
     let ends : verticesNumber n (length s) i j ≡ 0 = named-zero n (length s) i j (vertexTests n u v (edgeTests s u v)) (sym ek ∙ z) in
-    let edge : verticesNumber n (length s) u v ≡ 0 = named-zero n (length s) u v (edgeTests s u v) (past-ends n s i j u v _ refl ends _ refl ∙ sym ek ∙ z) in
     let p = vertices-ready n s i j _ refl ends in
-    let q = vertices-ready n s u v _ refl edge in
-    (p .0, p .1, p .2, q .1, q .2)
+    let rest : firstTrue (vertexTests n u v (edgeTests s u v)) ≡ 0
+    = named-passes n (length s) i j _ refl (vertexTests n u v (edgeTests s u v)) ends ∙ sym ek ∙ z in
+    let within : (x : ℕ) → (n ≤ x → (n ≤ u) ⊎ (n ≤ v)) → x < n
+    = λ x h. elim (decLt x n) [
+      | yes l ↦ l
+      | no l ↦ absurd (omega (arith, sym rest ∙ first-here _ (edgeTests s u v) (reflects-or (reflects-le n u) (reflects-le n v) .shows (h (omega arith)))))
+    ] in
+    (p .0, p .1, p .2, within u inl, within v inr)
 
 -- ---- walk_number: x is the count
 

@@ -8,7 +8,7 @@ use native.Mathlib.Omega.{arith}
 use lib.Bits.{bitAnd, mask-lt}
 use lib.ListN.{length, getD, drop}
 use Rattle.sums.proofs.SumLaws.{sum-cong}
-use Rattle.word.specs.Bit.{withoutBit, Lowest}
+use Rattle.word.specs.Bit.{Lowest, LowestCleared}
 use Rattle.word.proofs.MaskLaws.{bit-below}
 use Rattle.word.proofs.CountLaws.{Adding, adding-start, adding-more, adding-done}
 use Rattle.sheet.specs.Layout.{rowAt, countAt, edgeAt}
@@ -31,7 +31,7 @@ module _ (n : ℕ) (s : List ℕ) (j i b : ℕ) where
   passing-start y rest ey er = rw (er, ey) (adding-start b (below s i b) (λ a. countAt n s a j) (mask-lt (rowAt s i) b))
 
   pub passing-more : (rest x a c y r : ℕ) → Passing n s j i b rest x → Lowest rest a → c ≡ countAt n s a j → y ≡ (x + c) % 2 ^ 64
-      → r ≡ withoutBit rest a → Passing n s j i b r y
+      → LowestCleared rest r → Passing n s j i b r y
   passing-more rest x a c y r was l ec ey er = adding-more b (below s i b) (λ a. countAt n s a j) rest x a y r was l (ey ∙ ap (λ z. (x + z) % 2 ^ 64) ec) er
 
   pub passing-done : (rest x : ℕ) → Passing n s j i b rest x → rest ≡ 0 → x ≡ passed (edgeAt s) (countAt n s) j i b % 2 ^ 64

@@ -8,7 +8,7 @@ use native.Mathlib.Omega.{arith}
 use lib.Bits.{bitAnd, mask-lt}
 use lib.ListN.{getD}
 use Rattle.sums.specs.Sum.{sum}
-use Rattle.word.specs.Bit.{bit, withoutBit, Lowest}
+use Rattle.word.specs.Bit.{bit, Lowest, LowestCleared}
 use Rattle.word.proofs.BitLaws.{bit-zero, bit-clear-same, bit-clear-other, clear-below}
 use Rattle.word.proofs.MaskLaws.{bit-below}
 use Rattle.word.proofs.CountLaws.{lowest-lt}
@@ -68,9 +68,9 @@ module _ (n : ℕ) (s : List ℕ) (j i k : ℕ) where
         pub trying-goes : left < x → Stepped n s i j k (record { vertex = b; left = left })
         trying-goes h = inl (within, tried-goes n (edgeAt s) (countAt n s) j (edge-le s) i k b left within (omega (arith, edge)) reached (rw ex at h))
 
-        pub trying-more : x ≤ left → (r y : ℕ) → r ≡ withoutBit rest b → y ≡ left - x → Trying n s j i k r y
+        pub trying-more : x ≤ left → (r y : ℕ) → LowestCleared rest r → y ≡ left - x → Trying n s j i k r y
         trying-more h r y er ey =
-            rw (er, ey)
+            rw (er b l, ey)
             record {
               c = suc b;
               high = within;

@@ -11,6 +11,12 @@ use Rattle.query.specs.declared.walk.Next.{Next}
 use Rattle.query_theory.specs.Walk.{goes, passes, tried}
 use Rattle.query_theory.specs.Unrank.{numberTests, walk}
 
+-- r is the greater of i and j
+pub record Greater (i j r : ℕ) : Type 0 where
+  pub first : i ≤ r
+  pub second : j ≤ r
+  pub least : (k : ℕ) → i < k → j < k → r < k
+
 -- the number that is given before a walk: 1, 2, 3, 10, 11 or 0
 abbrev pub beforeWalk : ℕ → List ℕ → ℕ → ℕ → ℕ → ℕ → ℕ
 beforeWalk n s i j k len = firstTrue (sizedTests n (length s) (vertexTests n i j (numberTests n s i j k len [])))

@@ -5,7 +5,7 @@ ghost use Rattle.word.specs.Bit.{hasBit};
 ghost use Rattle.sheet.specs.Layout.{Shape, rowAt};
 ghost use Rattle.query_theory.specs.ReachesWithout.{reachesWithoutNumber};
 ghost use Rattle.query_theory.specs.Rank.{someNoVertex, broken};
-ghost use Rattle.query.specs.Internal.{Vertices, beforeWalk};
+ghost use Rattle.query.specs.Internal.{Vertices, Greater, beforeWalk};
 use sheet::Refusal;
 use sheet::checks;
 use sheet::layout;
@@ -16,6 +16,16 @@ fn has_edge(n: usize, sheet: &[u64], i: usize, j: usize) -> bool
     ensures { λ r. ⌜ r ≡ hasBit (rowAt (now (sheet .entry)) i) j ⌝ }
 {
     word::test_bit(sheet[i], j)
+}
+
+// The greater of two numbers.
+fn greater(i: usize, j: usize) -> usize
+    ensures { λ r. ⌜ Greater i j r ⌝ }
+{
+    if i < j {
+        return j;
+    }
+    i
 }
 
 // The number by which a path without an edge is refused: 1, 2, 3, 7, or 0.
@@ -29,13 +39,12 @@ pub(crate) fn without_number(
 ) -> u64
     ensures { λ r. ⌜ r ≡ reachesWithoutNumber n (now (sheet .entry)) from to «edge_from» «edge_to» ⌝ }
 {
-    let number = checks::vertices_number(n, sheet.len(), from, to);
+    let number = checks::shape_number(n, sheet.len());
     if number != 0 {
         return number;
     }
-    let edge_number = checks::vertices_number(n, sheet.len(), edge_from, edge_to);
-    if edge_number != 0 {
-        return edge_number;
+    if n <= greater(greater(from, to), greater(edge_from, edge_to)) {
+        return Refusal::VERTEX;
     }
     if !has_edge(n, sheet, edge_from, edge_to) {
         return Refusal::ABSENT;

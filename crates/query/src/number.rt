@@ -18,7 +18,7 @@ fn pass_over(n: usize, sheet: &[u64], j: usize, i: usize, b: usize) -> u64
     while rest != 0 {
         let a = word::lowest_bit(rest);
         sum = word::wrapping_add(sum, layout::count_at(n, sheet, a, j));
-        rest = word::clear_bit(rest, a);
+        rest = word::clear_lowest(rest);
     }
     sum
 }

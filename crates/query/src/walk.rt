@@ -27,7 +27,7 @@ fn step(n: usize, sheet: &[u64], i: usize, to: usize, k: u64) -> Next
             return Next { vertex: b, left };
         }
         left -= count;
-        rest = word::clear_bit(rest, b);
+        rest = word::clear_lowest(rest);
     }
     Next { vertex: n, left }
 }

@@ -1,5 +1,6 @@
 -- The laws of the row that the recurrence gives, and of rows compared and written. Assumes nothing.
 use mathlib.Core.Path.{_≡_, refl, sym, _∙_}
+use mathlib.Core.Logic.{inl, inr}
 use mathlib.Core.Bool.{Bool, true, false, true≢false, not}
 use mathlib.Core.List.{List}
 use Prim.Native.Nat.{ℕ, _+_, _%_, _^_, _≤_, _<_}
@@ -85,13 +86,13 @@ module _ (P : ℕ → Type 0) (n i : ℕ) where
 -- ---- a row written
 
 pub row-filled : (n : ℕ) (s t u : List ℕ) (v base : ℕ) → length s ≡ size n → RowBase n v base → SuccessorsSummed n s v t
-    → u ≡ over s base (λ (j : ℕ). getD t j 0) n → RowFilled n s v u
+    → u ≡ over s base (λ (j : ℕ). getD t j 0) n → RowFilled n s v 0 n u
 row-filled n s t u v base long at summed e =
     rw e
     record {
       long = length-puts s (λ j. base + j) f n;
-      filled = λ j h. sym (base-count n (over s base f n) v base at j) ∙ over-in s base f n j (omega arith) h ∙ summed .sums j h;
-      kept = λ k h. over-out s base f n k (rw (at .is) h);
+      filled = λ j lo h. sym (base-count n (over s base f n) v base at j) ∙ over-in s base f n j (omega arith) (omega arith) ∙ summed .sums j (omega arith);
+      kept = λ k h. over-out s base f n k (elim h [ inl q ↦ inl (omega (arith, at .is)) | inr q ↦ inr (omega (arith, at .is)) ]);
     }
   where
     f : ℕ → ℕ

@@ -32,11 +32,18 @@ pub record SuccessorsSummed (n : ℕ) (s : List ℕ) (i : ℕ) (t : List ℕ) : 
 abbrev pub SameRow : ℕ → List ℕ → ℕ → List ℕ → Type 0
 SameRow n s base t = (j : ℕ) → j < n → getD s (base + j) 0 ≡ getD t j 0
 
--- t is s with the counts from v as the recurrence gives them
-pub record RowFilled (n : ℕ) (s : List ℕ) (v : ℕ) (t : List ℕ) : Type 0 where
+-- t is s with the counts from v to the w columns from c on as the recurrence gives them
+pub record RowFilled (n : ℕ) (s : List ℕ) (v c w : ℕ) (t : List ℕ) : Type 0 where
   pub long : length t ≡ length s
-  pub filled : (j : ℕ) → j < n → countAt n t v j ≡ successorsSum n s v j
-  pub kept : (k : ℕ) → (k < countsFrom n v) ⊎ (countsFrom n v + n ≤ k) → getD t k 0 ≡ getD s k 0
+  pub filled : (j : ℕ) → c ≤ j → j < c + w → countAt n t v j ≡ successorsSum n s v j
+  pub kept : (k : ℕ) → (k < countsFrom n v + c) ⊎ (countsFrom n v + c + w ≤ k) → getD t k 0 ≡ getD s k 0
+
+-- t is s with each count to the w columns from c on worked out from the rows, modulo 2 ^ 64
+pub record ColumnsFilled (n : ℕ) (s : List ℕ) (c w : ℕ) (t : List ℕ) : Type 0 where
+  pub long : length t ≡ length s
+  pub rows : (i : ℕ) → i < n → rowAt t i ≡ rowAt s i
+  pub filled : (i j : ℕ) → i < n → j < n → c ≤ j → j < c + w → countAt n t i j ≡ pathCount n (edgeAt s) i j % 2 ^ 64
+  pub kept : (i j : ℕ) → i < n → j < n → (j < c) ⊎ (c + w ≤ j) → countAt n t i j ≡ countAt n s i j
 
 -- s with each count worked out from its rows, modulo 2 ^ 64
 abbrev pub counted : ℕ → List ℕ → List ℕ

@@ -11,20 +11,21 @@ use sheet::Answer;
 use sheet::Refusal;
 use sheet::Sheet;
 
+mod blocks;
 mod checks;
 mod order;
 mod rows;
 
-// The counts, in the order given: each row from those of its successors, which are earlier.
+// The counts, in the order given: each from those of its successors, which are earlier.
 fn fill_counts(n: usize, sheet: &mut [u64], order: &[usize; Sheet::VERTICES])
     requires { ⌜ (Shape n (now sheet)) × (RowsBelow n (now sheet)) × (Ordered n (now sheet) (now order)) ⌝ }
     ensures { λ r. ⌜ now (sheet .exit) ≡ counted n (now (sheet .entry)) ⌝ }
 {
-    let mut k = 0;
-    while k < n {
-        rows::fill_row(n, sheet, order[k]);
-        k += 1;
+    if n < Sheet::COLUMNS {
+        rows::fill_rows(n, sheet, order);
+        return;
     }
+    blocks::fill_blocks(n, sheet, order);
 }
 
 // The counts worked out afresh from the rows (document 01: the survey). Refused by 1, 2, 4, 8, before a word is written. The
@@ -60,7 +61,10 @@ fn is_valid(n: usize, sheet: &[u64]) -> bool
     if !order::find_order(n, sheet, &mut found) {
         return false;
     }
-    rows::rows_hold(n, sheet)
+    if n < Sheet::COLUMNS {
+        return rows::rows_hold(n, sheet);
+    }
+    blocks::blocks_hold(n, sheet, &found)
 }
 
 // Whether the sheet is valid, whoever wrote it (document 01: the test of a stored sheet). Refused by 1, 2. The value is 1 or 0.

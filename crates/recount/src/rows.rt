@@ -6,7 +6,7 @@ ghost use Rattle.sheet.specs.Table.{Reflects};
 ghost use Rattle.sheet.specs.Layout.{Shape, rowAt};
 ghost use Rattle.sheet.specs.Fill.{over};
 ghost use Rattle.sheet.specs.Internal.{RowHolds, RowsBelow};
-ghost use Rattle.recount.specs.Internal.{SuccessorsSummed, SameRow, RowFilled};
+ghost use Rattle.recount.specs.Internal.{SuccessorsSummed, SameRow, RowFilled, Ordered, counted};
 use sheet::Sheet;
 
 // The counts from i as the recurrence gives them: one to i itself, and those from its successors added up, modulo 2^64.
@@ -20,8 +20,8 @@ fn sum_successors(n: usize, sheet: &[u64], i: usize) -> [u64; Sheet::VERTICES]
 }
 
 // Whether the n words from base on are those of t.
-fn same_row(n: usize, sheet: &[u64], base: usize, t: &[u64; Sheet::VERTICES]) -> bool
-    requires { ⌜ (n ≤ 64) × (base + n ≤ length (now sheet)) ⌝ }
+pub(crate) fn same_row(n: usize, sheet: &[u64], base: usize, t: &[u64]) -> bool
+    requires { ⌜ (n ≤ length (now t)) × (base + n ≤ length (now sheet)) ⌝ }
     ensures { λ r. ⌜ Reflects r (SameRow n (now (sheet .entry)) base (now (t .entry))) ⌝ }
 {
     let mut difference = 0;
@@ -58,8 +58,8 @@ pub(crate) fn rows_hold(n: usize, sheet: &[u64]) -> bool
 }
 
 // The first n words of t, written from base on.
-fn put_row(n: usize, sheet: &mut [u64], base: usize, t: &[u64; Sheet::VERTICES])
-    requires { ⌜ (n ≤ 64) × (base + n ≤ length (now sheet)) ⌝ }
+pub(crate) fn put_row(n: usize, sheet: &mut [u64], base: usize, t: &[u64])
+    requires { ⌜ (n ≤ length (now t)) × (base + n ≤ length (now sheet)) ⌝ }
     ensures { λ r. ⌜ now (sheet .exit) ≡ over (now (sheet .entry)) base (λ (j : ℕ). getD (now (t .entry)) j 0) n ⌝ }
 {
     let mut j = 0;
@@ -70,10 +70,22 @@ fn put_row(n: usize, sheet: &mut [u64], base: usize, t: &[u64; Sheet::VERTICES])
 }
 
 // The counts from v, written as the recurrence gives them.
-pub(crate) fn fill_row(n: usize, sheet: &mut [u64], v: usize)
+fn fill_row(n: usize, sheet: &mut [u64], v: usize)
     requires { ⌜ (Shape n (now sheet)) × (v < n) × (rowAt (now sheet) v < 2 ^ n) ⌝ }
-    ensures { λ r. ⌜ RowFilled n (now (sheet .entry)) v (now (sheet .exit)) ⌝ }
+    ensures { λ r. ⌜ RowFilled n (now (sheet .entry)) v 0 n (now (sheet .exit)) ⌝ }
 {
     let t = sum_successors(n, sheet, v);
     put_row(n, sheet, sheet::layout::row_base(n, v), &t);
+}
+
+// The counts, in the order given, row by row.
+pub(crate) fn fill_rows(n: usize, sheet: &mut [u64], order: &[usize; Sheet::VERTICES])
+    requires { ⌜ (Shape n (now sheet)) × (RowsBelow n (now sheet)) × (Ordered n (now sheet) (now order)) ⌝ }
+    ensures { λ r. ⌜ now (sheet .exit) ≡ counted n (now (sheet .entry)) ⌝ }
+{
+    let mut k = 0;
+    while k < n {
+        fill_row(n, sheet, order[k]);
+        k += 1;
+    }
 }

@@ -38,15 +38,25 @@ diagonalAt n i = countPlace n i i
 
 -- ---- rows of counts
 
--- u is t with the n words of s from base on added, modulo 2 ^ 64, at the places that t has
-pub record RowAdded (n : ℕ) (s : List ℕ) (base : ℕ) (t u : List ℕ) : Type 0 where
+-- how many columns a block has
+abbrev pub columns : ℕ
+columns = 16
+
+-- u has, at each place j below n that t has, what op makes of word j of t and word j of s from base on: `plus` or
+-- `minus`; of its places from n on nothing is said
+pub record RowBy (op : ℕ → ℕ → ℕ) (n : ℕ) (s : List ℕ) (base : ℕ) (t u : List ℕ) : Type 0 where
   pub long : length u ≡ length t
-  pub added : (j : ℕ) → j < n → j < length t → getD u j 0 ≡ (getD t j 0 + getD s (base + j) 0) % 2 ^ 64
+  pub each : (j : ℕ) → j < n → j < length t → getD u j 0 ≡ op (getD t j 0) (getD s (base + j) 0)
 
 -- t has, at each j below n, the sum of the counts to j from the vertices of the mask, modulo 2 ^ 64
 pub record RowsSummed (n : ℕ) (s : List ℕ) (mask : ℕ) (t : List ℕ) : Type 0 where
   pub long : length t ≡ 64
   pub sums : (j : ℕ) → j < n → getD t j 0 ≡ sum n (λ b. bit mask b * countAt n s b j) % 2 ^ 64
+
+-- t has the same sums to the columns of the block from c on
+pub record BlockSummed (n : ℕ) (s : List ℕ) (mask c : ℕ) (t : List ℕ) : Type 0 where
+  pub long : length t ≡ columns
+  pub sums : (j : ℕ) → j < columns → getD t j 0 ≡ sum n (λ b. bit mask b * countAt n s b (c + j)) % 2 ^ 64
 
 -- the count from i to j that the recurrence gives, from those of the successors of i, modulo 2 ^ 64
 unfoldable pub successorsSum : ℕ → List ℕ → ℕ → ℕ → ℕ

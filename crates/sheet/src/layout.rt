@@ -17,6 +17,8 @@ impl Sheet {
     pub const WORDS: usize = 4160;
     // The most edges that a valid sheet has: 64 × 63 / 2. No call refuses by it.
     pub const EDGES: usize = 2016;
+    // Internal: the columns of a block of counts, which are worked at once: so many that their sums fit in registers.
+    pub const COLUMNS: usize = 16;
 
     // The empty sheet of 64 vertices.
     pub fn new() -> Sheet

@@ -9,10 +9,10 @@ use native.Mathlib.Omega.{arith}
 use lib.Pow.{pow-pos, pow-mono, pow-add, pow-lt}
 use lib.Dec.{eqb, ltb}
 use borrow.Author.Tests.{lt-ltb, le-ltb, eq-eqb, ne-eqb}
-use lib.Bits.{bitAnd, bitOr, and-le-l, and-le-r, and-shr, and-step, and-high, or-add-and, or-shr}
+use lib.Bits.{bitAnd, bitOr, and-le-l, and-le-r, and-shr, and-self, and-step, and-high, or-add-and, or-shr}
 use Rattle.sums.specs.Sum.{delta}
 use Rattle.sums.proofs.SumLaws.{delta-refl, delta-diff}
-use Rattle.word.specs.Bit.{bit, withBit, withoutBit}
+use Rattle.word.specs.Bit.{bit, withBit, withoutBit, Lowest}
 use Rattle.word.proofs.BitLaws.{bit-cases, bit-zero, bit-half, bit-set-same, bit-set-other, bit-clear-same, bit-clear-other, clear-below, bits-determine, bit-one-lt, bit-beyond, shr-zero-lt}
 
 -- ---- a power of 2, and the word whose bits below n are set
@@ -128,3 +128,20 @@ shr-none n x =
 
 pub word-below : (n x : ℕ) → 64 ≤ n → x < 2 ^ 64 → true ≡ ltb x (2 ^ n)
 word-below n x h l = sym (lt-ltb x (2 ^ n) (lt-of-lt-of-le l (pow-mono h)))
+
+-- ---- a number and the number before it
+
+and-before : (b x : ℕ) → bit x b ≡ 1 → ((k : ℕ) → k < b → bit x k ≡ 0) → bitAnd x (x - 1) + 2 ^ b ≡ x
+and-before zero x e h =
+    let q : (x - 1) / 2 ≡ x / 2 = omega arith in
+    omega (arith, and-step x (x - 1), ap (bitAnd (x / 2)) q ∙ and-self (x / 2))
+and-before (suc b) x e h =
+    let z = h 0 (omega arith) in
+    let half = and-before b (x / 2) (bit-half x b ∙ e) (λ k l. bit-half x k ∙ h (suc k) (omega arith)) in
+    let q : (x - 1) / 2 ≡ x / 2 - 1 = omega (arith, half, pow-pos b) in
+    omega (arith, and-step x (x - 1), ap (bitAnd (x / 2)) q, half, pow-suc 2 b, pow-pos b)
+
+-- they have the bits in common that the number has above its lowest
+pub and-lowest : (x b : ℕ) → Lowest x b → bitAnd x (x - 1) ≡ withoutBit x b
+unfolding withoutBit
+and-lowest x b l = omega (arith, and-before b x (l .set) (l .least), ap (λ y. y * 2 ^ b) (l .set))

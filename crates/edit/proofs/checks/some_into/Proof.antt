@@ -36,14 +36,14 @@ returns c =
     (clashes-test inserts _ _ _ _ (omega arith) (c .before .before .clashes .ensures) (c .before .test-bit .ensures) .holds (c .if1 .taken))
 
 loop-less : tie.Need-loop-less Inv-loop μ-loop
-loop-less c = lowest-cleared-lt _ _ _ (c .before .before .before .before .before .lowest-bit .ensures) (c .clear-bit .ensures)
+loop-less c = lowest-cleared-lt _ _ _ (c .before .before .before .before .before .lowest-bit .ensures) (c .clear-lowest .ensures)
 
 loop-again : tie.Need-loop-again Inv-loop μ-loop
 loop-again c =
     let l = c .before .before .before .before .before in
     let inserts = l .before .before .before .before .args .inserts in
     let test = clashes-test inserts _ _ _ _ (omega arith) (c .before .before .before .clashes .ensures) (c .before .before .test-bit .ensures) in
-    searching-more _ _ _ _ _ (l .before .before .loop .inv) (l .lowest-bit .ensures) _ (reflects-false test .0 (c .before .if1 .left)) (c .clear-bit .ensures)
+    searching-more _ _ _ _ _ (l .before .before .loop .inv) (l .lowest-bit .ensures) _ (reflects-false test .0 (c .before .if1 .left)) (c .clear-lowest .ensures)
 
 returns-2 : tie.Need-returns-2 Inv-loop μ-loop
 returns-2 c = searching-done _ _ _ _ (c .before .loop .inv) (omega (arith, eqb-true))

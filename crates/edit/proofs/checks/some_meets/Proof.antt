@@ -32,13 +32,13 @@ returns c =
     searching-found _ _ _ _ _ (l .before .before .loop .inv) (l .lowest-bit .ensures) (c .before .row-meets .ensures .holds (c .if1 .taken))
 
 loop-less : tie.Need-loop-less Inv-loop μ-loop
-loop-less c = lowest-cleared-lt _ _ _ (c .before .before .before .lowest-bit .ensures) (c .clear-bit .ensures)
+loop-less c = lowest-cleared-lt _ _ _ (c .before .before .before .lowest-bit .ensures) (c .clear-lowest .ensures)
 
 loop-again : tie.Need-loop-again Inv-loop μ-loop
 loop-again c =
     let l = c .before .before .before in
     let none = reflects-false (c .before .before .row-meets .ensures) .0 (c .before .if1 .left) in
-    searching-more _ _ _ _ _ (l .before .before .loop .inv) (l .lowest-bit .ensures) _ none (c .clear-bit .ensures)
+    searching-more _ _ _ _ _ (l .before .before .loop .inv) (l .lowest-bit .ensures) _ none (c .clear-lowest .ensures)
 
 returns-2 : tie.Need-returns-2 Inv-loop μ-loop
 returns-2 c = searching-done _ _ _ _ (c .before .loop .inv) (omega (arith, eqb-true))

@@ -31,7 +31,7 @@ shared-slice-read-wrapping-add : tie.Need-shared-slice-read-wrapping-add Inv-loo
 shared-slice-read-wrapping-add c = omega (arith, lowest-lt _ _ _ (c .before .lowest-bit .ensures) (c .before .before .before .loop .inv .below))
 
 loop-less : tie.Need-loop-less Inv-loop μ-loop
-loop-less c = lowest-cleared-lt _ _ _ (c .before .before .before .lowest-bit .ensures) (c .clear-bit .ensures)
+loop-less c = lowest-cleared-lt _ _ _ (c .before .before .before .lowest-bit .ensures) (c .clear-lowest .ensures)
 
 loop-again : tie.Need-loop-again Inv-loop μ-loop
 loop-again c = search from-more

@@ -36,7 +36,7 @@ slice-write-sheet : tie.Need-slice-write-sheet Inv-loop μ-loop
 slice-write-sheet c = let l = c .before .before .before .before .loop in omega (arith, lowest-lt _ _ _ (c .before .before .lowest-bit .ensures) (l .inv .below), l .inv .long)
 
 loop-less : tie.Need-loop-less Inv-loop μ-loop
-loop-less c = lowest-cleared-lt _ _ _ (c .before .before .before .lowest-bit .ensures) (c .clear-bit .ensures)
+loop-less c = lowest-cleared-lt _ _ _ (c .before .before .before .lowest-bit .ensures) (c .clear-lowest .ensures)
 
 loop-again : tie.Need-loop-again Inv-loop μ-loop
 loop-again c =
@@ -45,7 +45,7 @@ loop-again c =
     let start = loop .before .before in
     marking-more _ _ _ _ _ (loop .loop .sheet) (loop .loop .rest) (l .lowest-bit .result) (c .before .mark .result)
     (start .pre .0 .long) (loop .loop .inv) (l .lowest-bit .ensures) (c .before .mark .ok)
-    (rw (one-shl (start .args .v) (omega arith)) at (c .before .mark .ensures)) (c .clear-bit .result) (c .clear-bit .ensures)
+    (rw (one-shl (start .args .v) (omega arith)) at (c .before .mark .ensures)) (c .clear-lowest .result) (c .clear-lowest .ensures)
 
 same-length : tie.Need-same-length Inv-loop μ-loop
 same-length c = c .before .loop .inv .long

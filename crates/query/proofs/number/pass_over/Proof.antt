@@ -22,7 +22,7 @@ loop-again c =
     let at = c .before .before .before .before .before in
     let a = at .before .before .before .before .args in
     passing-more (a .n) (a .sheet .now) (a .j) (a .i) (a .b) (at .loop .rest) (at .loop .sum) _ _ _ _ (at .loop .inv) (c .before .before .before .lowest-bit .ensures)
-    (c .before .before .count-at .ensures) (c .before .wrapping-add .ensures) (c .clear-bit .ensures)
+    (c .before .before .count-at .ensures) (c .before .wrapping-add .ensures) (c .clear-lowest .ensures)
 
 returns : tie.Need-returns Inv-loop μ-loop
 returns c =

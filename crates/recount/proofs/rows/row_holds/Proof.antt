@@ -11,4 +11,4 @@ returns c =
     holds-same (a .n) (a .sheet .now) _ (a .i) _ _ (b .row-base .ensures) (b .before .sum-successors .ensures) (c .same-row .ensures)
 
 pub row-holds-spec : {M : Type 1} → statement M
-row-holds-spec = tie.close (tie.spec (λ c κs. search needs) (λ c κs. search needs) (λ c κs. search needs) returns)
+row-holds-spec = tie.close (tie.spec (λ c κs. search needs) (λ c κs. search needs) (λ c. search needs) (λ c κs. search needs) returns)

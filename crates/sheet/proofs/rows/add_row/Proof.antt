@@ -4,28 +4,32 @@ use Prim.Native.Nat.{ℕ, _-_, _≤_}
 use native.Mathlib.Omega.{arith}
 use borrow.Author.Needs.{needs}
 use lib.ListN.{getD}
-use Rattle.sheet.specs.Internal.{RowAdded}
-use Rattle.sheet.proofs.RowLaws.{added-none, added-more, added-kept, added-done}
+use Rattle.word.specs.Wrap.{plus}
+use Rattle.sheet.specs.Internal.{RowBy}
+use Rattle.sheet.proofs.RowLaws.{row-none, row-more, row-kept, row-done}
 use Rattle.sheet.proofs.rows.add_row.Statement.{statement}
 use Rattle.sheet.proofs.rows.add_row.Tie as tie
 
 abbrev Inv-loop : tie.InvT-loop
-Inv-loop n sheet base t₀ j₀ t j = (j ≤ n) × (RowAdded j sheet base t₀ t) × ((k : ℕ) → j ≤ k → getD t k 0 ≡ getD t₀ k 0)
+Inv-loop n words base t₀ j₀ t j = (j ≤ n) × (RowBy plus j words base t₀ t) × ((k : ℕ) → j ≤ k → getD t k 0 ≡ getD t₀ k 0)
 
 abbrev μ-loop : tie.MeasureT-loop
-μ-loop n sheet base t₀ j₀ t j = n - j
+μ-loop n words base t₀ j₀ t j = n - j
 
 loop-holds : tie.Need-loop-holds Inv-loop μ-loop
-loop-holds c = (omega arith, added-none _ _ _, λ k h. refl)
+loop-holds c = (omega arith, row-none plus _ _ _, λ k h. refl)
 
 loop-again : tie.Need-loop-again Inv-loop μ-loop
-loop-again c = (omega arith, search added-more, search added-kept)
+loop-again c = (omega arith, search row-more, search (row-kept plus))
+
+same-length : tie.Need-same-length Inv-loop μ-loop
+same-length c = c .before .loop .inv .1 .long
 
 returns : tie.Need-returns Inv-loop μ-loop
-returns c = added-done _ _ _ _ (c .before .loop .j) _ (c .before .loop .inv .1) (omega arith)
+returns c = row-done plus _ _ _ _ (c .before .loop .j) _ (c .before .loop .inv .1) (omega arith)
 
 pub add-row-spec : {M : Type 1} → statement M
 add-row-spec =
     tie.close
     (tie.spec Inv-loop μ-loop loop-holds (λ c. omega arith) (λ c. omega arith) (λ c. omega arith) (λ c. omega arith) (λ c. omega arith)
-    (λ c κs. search needs) (λ c. omega arith) (λ c. omega arith) (λ c. omega arith) (λ c. omega arith) loop-again returns)
+    (λ c κs. search needs) (λ c. omega arith) (λ c. omega arith) (λ c. omega arith) (λ c. omega arith) loop-again same-length returns)

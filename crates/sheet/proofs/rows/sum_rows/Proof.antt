@@ -1,38 +1,47 @@
 -- `sheet::rows::sum_rows` meets its contract: what is added up and what is left of the mask make the sum for the whole mask. What is
 -- left falls with each turn. Assumes nothing.
 use native.Mathlib.Omega.{arith}
+use borrow.Author.Needs.{needs}
 use borrow.Author.Tests.{eqb-true, eqb-false}
 use Rattle.word.proofs.CountLaws.{lowest-lt, lowest-cleared-lt}
-use Rattle.sheet.proofs.RowLaws.{Summing, summing-start, summing-more, summing-done}
+use Rattle.sheet.proofs.RowLaws.{base-count, Summing, summing-start, summing-more, summing-done}
 use Rattle.sheet.proofs.rows.sum_rows.Statement.{statement}
 use Rattle.sheet.proofs.rows.sum_rows.Tie as tie
 
 abbrev Inv-loop : tie.InvT-loop
-Inv-loop n sheet mask t₀ rest₀ t rest = Summing n sheet mask rest t
+Inv-loop n sheet mask t₀ rest₀ t rest = Summing n sheet mask (λ j. j) n 64 rest t
 
 abbrev μ-loop : tie.MeasureT-loop
 μ-loop n sheet mask t₀ rest₀ t rest = rest
 
 loop-holds : tie.Need-loop-holds Inv-loop μ-loop
-loop-holds c = summing-start _ _ _ (omega arith) (c .before .pre .1)
+loop-holds c = summing-start _ _ _ (λ j. j) _ 64 (c .before .pre .0 .high) (c .before .pre .1)
 
 lowest-bit-requires : tie.Need-lowest-bit-requires Inv-loop μ-loop
 lowest-bit-requires c κs = omega (arith, eqb-false)
 
 row-base-requires : tie.Need-row-base-requires Inv-loop μ-loop
-row-base-requires c κs = (omega arith, lowest-lt _ _ _ (c .lowest-bit .ensures) (c .before .before .loop .inv .adding 0 (omega arith) .below))
+row-base-requires c κs = (omega arith, lowest-lt _ _ _ (c .lowest-bit .ensures) (c .before .before .loop .inv .below))
 
 loop-less : tie.Need-loop-less Inv-loop μ-loop
 loop-less c = search lowest-cleared-lt
 
 loop-again : tie.Need-loop-again Inv-loop μ-loop
-loop-again c = search (summing-more, arith)
+loop-again c =
+    let l = c .before .before .before .before .before in
+    let at = l .before .before in
+    let a = at .before .before .args in
+    summing-more (a .n) (a .sheet .now) (a .mask) (λ j. j) (a .n) 64 (at .before .before .pre .0 .high) (at .loop .t) _ (at .loop .rest) _ _ _ (at .loop .inv)
+    (l .lowest-bit .ensures) (base-count (a .n) (a .sheet .now) _ _ (c .before .before .before .before .row-base .ensures)) (c .before .before .add-row .ensures) (c .clear-lowest .ensures)
 
 returns : tie.Need-returns Inv-loop μ-loop
-returns c = summing-done _ _ _ _ _ (c .before .loop .inv) (omega (arith, eqb-true))
+returns c =
+    let at = c .before in
+    let sums = summing-done _ _ _ _ _ _ (at .before .before .pre .0 .high) _ _ (at .loop .inv) (omega (arith, eqb-true)) in
+    record { long = at .loop .inv .long; sums = sums }
 
 pub sum-rows-spec : {M : Type 1} → statement M
 sum-rows-spec =
     tie.close
-    (tie.spec Inv-loop μ-loop loop-holds lowest-bit-requires row-base-requires (λ c κs. omega arith) (λ c κs. omega arith) loop-less loop-again
+    (tie.spec Inv-loop μ-loop loop-holds lowest-bit-requires row-base-requires (λ c. search needs) (λ c κs. omega arith) (λ c κs. omega arith) loop-less loop-again
     returns)
