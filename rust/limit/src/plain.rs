@@ -6,11 +6,20 @@ extern "C" {
     pub fn plain_empty(n: usize, sheet: *mut u64, words: usize) -> Answer;
     pub fn plain_insert_edge(n: usize, sheet: *mut u64, words: usize, from: usize, to: usize) -> Answer;
     pub fn plain_delete_edge(n: usize, sheet: *mut u64, words: usize, from: usize, to: usize) -> Answer;
-    pub fn plain_insert_edges_at(n: usize, sheet: *mut u64, words: usize, v: usize, from: u64, to: u64) -> Answer;
-    pub fn plain_delete_edges_at(n: usize, sheet: *mut u64, words: usize, v: usize, from: u64, to: u64) -> Answer;
-    pub fn plain_path_count(n: usize, sheet: *const u64, words: usize, from: usize, to: usize) -> Answer;
-    pub fn plain_reaches_without(n: usize, sheet: *const u64, words: usize, from: usize, to: usize, a: usize, b: usize)
+    pub fn plain_insert_edges_at(n: usize, sheet: *mut u64, words: usize, v: usize, predecessors: u64, successors: u64)
         -> Answer;
+    pub fn plain_delete_edges_at(n: usize, sheet: *mut u64, words: usize, v: usize, predecessors: u64, successors: u64)
+        -> Answer;
+    pub fn plain_path_count(n: usize, sheet: *const u64, words: usize, from: usize, to: usize) -> Answer;
+    pub fn plain_reaches_without(
+        n: usize,
+        sheet: *const u64,
+        words: usize,
+        from: usize,
+        to: usize,
+        edge_from: usize,
+        edge_to: usize,
+    ) -> Answer;
     pub fn plain_unrank(
         n: usize,
         sheet: *const u64,
