@@ -15,13 +15,14 @@ use Rattle.word.specs.Bit.{bit, hasBit, withBit}
 use Rattle.word.proofs.BitLaws.{bit-set-same, bit-set-other, has-true, has-false}
 use Rattle.word.proofs.MaskLaws.{bit-not, and-zero, and-some}
 use Rattle.graph.specs.Update.{into, out, through, Closes}
-use Rattle.sheet.specs.Table.{Conditions, First, firstTrue, Reflects}
-use Rattle.sheet.specs.Layout.{rowAt, countAt, edgeAt}
-use Rattle.sheet.specs.Conditions.{StrayBit}
-use Rattle.sheet.specs.Internal.{shapeNumber, RowBase}
-use Rattle.sheet.proofs.TableLaws.{reflects-true, reflects-iff, reflects-not, reflects-eq, reflects-false, first-true, first-only}
-use Rattle.sheet.proofs.ShapeLaws.{sized-stops, sized-passes}
-use Rattle.sheet.proofs.StrayLaws.{stray-iff}
+use Rattle.answers.specs.Table.{Conditions, First, firstTrue, Reflects}
+use Rattle.sheet_theory.specs.Layout.{rowAt, countAt, edgeAt}
+use Rattle.sheet_theory.specs.Conditions.{StrayBit}
+use Rattle.sheet_theory.specs.Internal.{shapeNumber}
+use Rattle.sheet.specs.Internal.{RowBase}
+use Rattle.answers.proofs.TableLaws.{reflects-true, reflects-iff, reflects-not, reflects-eq, reflects-false, first-true, first-only}
+use Rattle.sheet_theory.proofs.ShapeLaws.{sized-stops, sized-passes}
+use Rattle.sheet_theory.proofs.StrayLaws.{stray-iff}
 use Rattle.sheet.proofs.RowLaws.{base-count}
 use Rattle.edit_theory.specs.Edit.{at, oneIf}
 use Rattle.edit_theory.specs.Table.{SomeEdge, argued, effects, SomeOf}

@@ -7,20 +7,21 @@ use Prim.Native.Nat.{ℕ, _*_, _%_, _^_, _<_}
 use native.Mathlib.Omega.{arith}
 use lib.ListN.{length}
 use Rattle.word.proofs.MaskLaws.{one-shl}
-use Rattle.sheet.specs.declared.answer.Answer.{Answer}
-use Rattle.sheet.specs.Table.{First, Tests, firstTrue}
-use Rattle.sheet.specs.Answers.{answer, decided, answered}
-use Rattle.sheet.specs.Layout.{size, setBits}
-use Rattle.sheet.specs.Conditions.{sized, sizedTests}
-use Rattle.sheet.specs.Internal.{verticesNumber}
-use Rattle.sheet.proofs.TableLaws.{first-true, Refusing, first-stops, first-passes, first-past}
-use Rattle.sheet.proofs.AnswerLaws.{answered-refused, answered-accepted, decided-refused, decided-accepted}
-use Rattle.sheet.proofs.ShapeLaws.{sized-agree, accepted-shape, vertices-below}
-use Rattle.sheet.proofs.LayoutLaws.{length-redone, row-redone, count-redone, rest-redone, redone-ext}
+use Rattle.answers.specs.declared.Answer.{Answer}
+use Rattle.answers.specs.Table.{First, Tests, firstTrue}
+use Rattle.answers.specs.Answers.{answer, decided, answered}
+use Rattle.sheet_theory.specs.Layout.{size, setBits}
+use Rattle.sheet_theory.specs.Conditions.{sized, sizedTests}
+use Rattle.sheet_theory.specs.Internal.{verticesNumber}
+use Rattle.answers.proofs.TableLaws.{first-true, Refusing, first-stops, first-passes, first-past}
+use Rattle.answers.proofs.AnswerLaws.{answered-refused, answered-accepted, decided-refused, decided-accepted}
+use Rattle.sheet_theory.proofs.ShapeLaws.{sized-agree, accepted-shape, vertices-below}
+use Rattle.sheet_theory.proofs.LayoutLaws.{length-redone, row-redone, count-redone, rest-redone, redone-ext}
 use Rattle.edit_theory.specs.Edit.{Edges, one, at, Edit, vertexOf, predecessorsOf, successorsOf, edgeEdit}
 use Rattle.edit_theory.specs.Table.{argued}
 use Rattle.edit_theory.specs.Outcome.{arguedTests, effectTests, editedRow, edited, editNumber, editWords, editAnswer, editAfter}
-use Rattle.edit.specs.Internal.{Ready, argumentNumber, effectNumber, effectAnswer, effectAfter, countsEdited, rowsEdited}
+use Rattle.edit_counts.specs.Internal.{Ready, countsEdited}
+use Rattle.edit.specs.Internal.{argumentNumber, effectNumber, effectAnswer, effectAfter, rowsEdited}
 use Rattle.edit_theory.proofs.ConditionLaws.{argued-agree, argued-past}
 
 -- ---- the counts and then the rows

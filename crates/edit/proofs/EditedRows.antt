@@ -14,8 +14,8 @@ use Rattle.word.proofs.CountLaws.{lowest-lt}
 use Rattle.word.specs.Bit.{bit, hasBit, withoutBit, Lowest, LowestCleared}
 use Rattle.word.proofs.BitLaws.{bit-cases, bit-clear-same, bit-clear-other, clear-below}
 use Rattle.word.proofs.MaskLaws.{bit-and, bit-or, bit-not}
-use Rattle.sheet.specs.Layout.{size, rowAt, countAt, edgeAt}
-use Rattle.sheet.proofs.LayoutLaws.{length-redone, row-redone, count-redone, rest-redone, redone-ext}
+use Rattle.sheet_theory.specs.Layout.{size, rowAt, countAt, edgeAt}
+use Rattle.sheet_theory.proofs.LayoutLaws.{length-redone, row-redone, count-redone, rest-redone, redone-ext}
 use Rattle.edit_theory.specs.Edit.{namedAt, marked}
 use Rattle.edit_theory.specs.Outcome.{editedRow}
 use Rattle.edit.specs.Internal.{Marked, rowsEdited}

@@ -3,11 +3,12 @@ ghost use mathlib.Core.Path.{_≡_};
 ghost use Prim.Native.Nat.{ℕ, _<_, _^_};
 ghost use Rattle.graph.specs.Update.{Closes};
 ghost use Rattle.word.specs.Bit.{bit};
-ghost use Rattle.sheet.specs.Table.{Reflects};
-ghost use Rattle.sheet.specs.Layout.{Shape, countAt, edgeAt};
+ghost use Rattle.answers.specs.Table.{Reflects};
+ghost use Rattle.sheet_theory.specs.Layout.{Shape, countAt, edgeAt};
 ghost use Rattle.edit_theory.specs.Edit.{at, oneIf};
 ghost use Rattle.edit_theory.specs.Table.{SomeEdge, SomeOf};
-ghost use Rattle.edit.specs.Internal.{Ready, argumentNumber, effectNumber, Clashes, Meets};
+ghost use Rattle.edit_counts.specs.Internal.{Ready};
+ghost use Rattle.edit.specs.Internal.{argumentNumber, effectNumber, Clashes, Meets};
 use sheet::Refusal;
 
 // 1 if n is not 1 to 64, else 2 if a sheet of n vertices has not so many words, else 3 if there is no vertex v, else 4 if a mask has

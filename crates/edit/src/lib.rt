@@ -4,11 +4,11 @@
 ghost use mathlib.Core.Path.{_≡_};
 ghost use Rattle.edit_theory.specs.Edit.{edgeEdit, edgesEdit, insertEdge, deleteEdge, insertEdgesAt, deleteEdgesAt};
 ghost use Rattle.edit_theory.specs.Outcome.{editAnswer, editAfter};
-ghost use Rattle.edit.specs.Internal.{Ready, effectAnswer, effectAfter};
+ghost use Rattle.edit_counts.specs.Internal.{Ready};
+ghost use Rattle.edit.specs.Internal.{effectAnswer, effectAfter};
 use sheet::Answer;
 
 mod checks;
-mod counts;
 mod rows;
 
 // The edit at v by masks, once 1 to 4 are past: refused by 5, 6, 8 or by 7, else made.
@@ -28,7 +28,7 @@ fn edit_at(
     if number != 0 {
         return Answer::refused(number);
     }
-    counts::edit_counts(inserts, n, sheet, v, predecessors, successors);
+    edit_counts::edit_counts(inserts, n, sheet, v, predecessors, successors);
     rows::edit_rows(inserts, n, sheet, v, predecessors, successors);
     Answer::accepted(sheet::rows::count_set_bits(n, sheet))
 }

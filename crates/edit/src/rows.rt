@@ -1,8 +1,9 @@
 // The rows after an edit: the bits of the edges that it names set or cleared, and every other bit as it was.
 ghost use mathlib.Core.Path.{_≡_};
 ghost use Prim.Native.Nat.{_<_, _^_};
-ghost use Rattle.sheet.specs.Layout.{Shape};
-ghost use Rattle.edit.specs.Internal.{Ready, Marked, rowsEdited};
+ghost use Rattle.sheet_theory.specs.Layout.{Shape};
+ghost use Rattle.edit_counts.specs.Internal.{Ready};
+ghost use Rattle.edit.specs.Internal.{Marked, rowsEdited};
 
 // The bits of the mask set in row, or cleared.
 fn mark(inserts: bool, row: u64, mask: u64) -> u64

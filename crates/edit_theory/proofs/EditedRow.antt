@@ -11,7 +11,7 @@ use Rattle.sums.proofs.SumLaws.{delta-refl, delta-diff}
 use Rattle.word.specs.Bit.{bit, hasBit}
 use Rattle.word.proofs.BitLaws.{bit-zero, bit-lt, ofBits-lt, bit-ofBits, ofBits-only}
 use Rattle.word.proofs.MaskLaws.{bit-pow}
-use Rattle.sheet.specs.Layout.{rowAt, edgeAt}
+use Rattle.sheet_theory.specs.Layout.{rowAt, edgeAt}
 use Rattle.edit_theory.specs.Edit.{namedAt, marked}
 use Rattle.edit_theory.specs.Outcome.{editedRow}
 use Rattle.edit_theory.proofs.NamedLaws.{marked-le}

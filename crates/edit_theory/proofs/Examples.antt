@@ -6,10 +6,10 @@ use Rattle.sums.specs.Sum.{sum}
 use Rattle.word.specs.Bit.{bitCount, ofBits}
 use Rattle.word.specs.Wrap.{minus}
 use Rattle.graph.specs.Update.{fromSum, toSum}
-use Rattle.sheet.specs.Table.{firstTrue}
-use Rattle.sheet.specs.Answers.{answer}
-use Rattle.sheet.specs.Layout.{setBits, build, redoneWord, redone}
-use Rattle.sheet.proofs.Examples.{D}
+use Rattle.answers.specs.Table.{firstTrue}
+use Rattle.answers.specs.Answers.{answer}
+use Rattle.sheet_theory.specs.Layout.{setBits, build, redoneWord, redone}
+use Rattle.sheet_theory.proofs.Examples.{D}
 use Rattle.edit_theory.specs.Edit.{insertEdge, deleteEdge, insertEdgesAt, deleteEdgesAt}
 use Rattle.edit_theory.specs.Outcome.{some, someEdge, closes, editedRow, editedBy, editedCount, edited, editAnswer, editAfter}
 

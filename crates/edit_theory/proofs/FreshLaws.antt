@@ -17,11 +17,11 @@ use Rattle.graph.proofs.Lists.{exactly-only}
 use Rattle.graph.proofs.Walks.{paths-cong, cycle-cong}
 use Rattle.graph.proofs.Counting.{pathCount-exact}
 use Rattle.graph.proofs.Bound.{paths-below}
-use Rattle.sheet.specs.Layout.{Shape, size, rowAt, countAt, edgeAt, setBits, redone}
-use Rattle.sheet.specs.Valid.{Valid}
-use Rattle.sheet.specs.Internal.{RowsBelow}
-use Rattle.sheet.proofs.StrayLaws.{rows-iff}
-use Rattle.sheet.proofs.LayoutLaws.{length-redone, row-redone, count-redone, sheet-ext}
+use Rattle.sheet_theory.specs.Layout.{Shape, size, rowAt, countAt, edgeAt, setBits, redone}
+use Rattle.sheet_theory.specs.Valid.{Valid}
+use Rattle.sheet_theory.specs.Internal.{RowsBelow}
+use Rattle.sheet_theory.proofs.StrayLaws.{rows-iff}
+use Rattle.sheet_theory.proofs.LayoutLaws.{length-redone, row-redone, count-redone, sheet-ext}
 use Rattle.edit_theory.specs.Model.{Model, opened, edgeCount, Fresh}
 
 -- s is worked out afresh from m, which has 1 to 64 vertices and no cycle

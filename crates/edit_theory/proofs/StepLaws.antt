@@ -20,13 +20,13 @@ use Rattle.graph.proofs.Walks.{cycle-cong, cycle-widen, reach-refl, cycle-of}
 use Rattle.graph.proofs.Recurrence.{pathCount-cong}
 use Rattle.graph.proofs.Editing.{cycle-iff-closes}
 use Rattle.graph.proofs.Remainders.{insertion-mod, deletion-mod}
-use Rattle.sheet.specs.declared.answer.Answer.{Answer}
-use Rattle.sheet.specs.Table.{First, Reflects}
-use Rattle.sheet.specs.Answers.{decided, answered}
-use Rattle.sheet.specs.Layout.{size, rowAt, countAt, edgeAt, setBits}
-use Rattle.sheet.proofs.TableLaws.{reflects-iff, reflects-not, reflects-eq, first-true, first-only, first-past}
-use Rattle.sheet.proofs.AnswerLaws.{answer-ext}
-use Rattle.sheet.proofs.LayoutLaws.{size-only}
+use Rattle.answers.specs.declared.Answer.{Answer}
+use Rattle.answers.specs.Table.{First, Reflects}
+use Rattle.answers.specs.Answers.{decided, answered}
+use Rattle.sheet_theory.specs.Layout.{size, rowAt, countAt, edgeAt, setBits}
+use Rattle.answers.proofs.TableLaws.{reflects-iff, reflects-not, reflects-eq, first-true, first-only, first-past}
+use Rattle.answers.proofs.AnswerLaws.{answer-ext}
+use Rattle.sheet_theory.proofs.LayoutLaws.{size-only}
 use Rattle.edit_theory.specs.Edit.{Edges, at, Edit, vertexOf, predecessorsOf, successorsOf, namedAt, named, marked}
 use Rattle.edit_theory.specs.Table.{SomeEdge, effects}
 use Rattle.edit_theory.specs.Outcome.{closes, editedRow, editedBy, editedCount, edited, editNumber, editWords, editTests, editAnswer, editAfter}

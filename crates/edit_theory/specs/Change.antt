@@ -5,7 +5,7 @@ use mathlib.Core.List.{List}
 use Prim.Native.Nat.{ℕ, _+_}
 use Rattle.graph.specs.Graph.{Exactly, IsPath}
 use Rattle.graph.specs.Uses.{Uses}
-use Rattle.sheet.specs.Layout.{countAt, edgeAt}
+use Rattle.sheet_theory.specs.Layout.{countAt, edgeAt}
 use Rattle.edit_theory.specs.Edit.{Edges, named}
 
 -- exactly k paths from i to j over the rows of s use at least one of the edges g

@@ -6,11 +6,11 @@ use Prim.Native.Nat.{ℕ, _<_}
 use lib.ListN.{length}
 use Rattle.sums.specs.Sum.{sum}
 use Rattle.graph.specs.Graph.{Exactly, IsPath, Cycle}
-use Rattle.sheet.specs.declared.answer.Answer.{Answer}
-use Rattle.sheet.specs.Table.{Conditions, First}
-use Rattle.sheet.specs.Answers.{decided}
-use Rattle.sheet.specs.Layout.{size, countAt, edgeAt}
-use Rattle.sheet.specs.Conditions.{StrayRow}
+use Rattle.answers.specs.declared.Answer.{Answer}
+use Rattle.answers.specs.Table.{Conditions, First}
+use Rattle.answers.specs.Answers.{decided}
+use Rattle.sheet_theory.specs.Layout.{size, countAt, edgeAt}
+use Rattle.sheet_theory.specs.Conditions.{StrayRow}
 use Rattle.edit_theory.specs.Edit.{Edit, insertEdge, named, marked}
 use Rattle.edit_theory.specs.Table.{table}
 

@@ -8,11 +8,11 @@ use lib.ListN.{length}
 use Rattle.word.specs.Bit.{bit, hasBit, ofBits}
 use Rattle.word.specs.Wrap.{minus}
 use Rattle.graph.specs.Update.{fromSum, toSum, Closes}
-use Rattle.sheet.specs.declared.answer.Answer.{Answer}
-use Rattle.sheet.specs.Table.{_gives_, Conditions, Tests, firstTrue}
-use Rattle.sheet.specs.Answers.{decided, answered}
-use Rattle.sheet.specs.Layout.{countAt, edgeAt, setBits, redone}
-use Rattle.sheet.specs.Conditions.{BadLength, vertexTests, sizedTests}
+use Rattle.answers.specs.declared.Answer.{Answer}
+use Rattle.answers.specs.Table.{_gives_, Conditions, Tests, firstTrue}
+use Rattle.answers.specs.Answers.{decided, answered}
+use Rattle.sheet_theory.specs.Layout.{countAt, edgeAt, setBits, redone}
+use Rattle.sheet_theory.specs.Conditions.{BadLength, vertexTests, sizedTests}
 use Rattle.edit_theory.specs.Edit.{Edges, one, at, Edit, vertexOf, predecessorsOf, successorsOf, namedAt, marked}
 use Rattle.edit_theory.specs.Table.{table}
 

@@ -2,8 +2,8 @@
 // declares what this file exports; a slice crosses as a pointer and a number of words or bytes.
 ghost use mathlib.Core.Path.{_≡_};
 ghost use lib.ListN.{length};
-ghost use Rattle.sheet.specs.Calls.{emptyAnswer, emptyAfter, pathCountAnswer};
-ghost use Rattle.recount.specs.Calls.{Recount, Validate};
+ghost use Rattle.sheet_theory.specs.Calls.{emptyAnswer, emptyAfter, pathCountAnswer};
+ghost use Rattle.recount_theory.specs.Calls.{Recount, Validate};
 ghost use Rattle.edit_theory.specs.Edit.{insertEdge, deleteEdge, insertEdgesAt, deleteEdgesAt};
 ghost use Rattle.edit_theory.specs.Outcome.{editAnswer, editAfter};
 ghost use Rattle.query_theory.specs.ReachesWithout.{reachesWithoutAnswer};

@@ -5,9 +5,9 @@ use mathlib.Core.List.{List, [], _∷_}
 use Rattle.sums.specs.Sum.{sum, delta}
 use Rattle.word.specs.Bit.{bitCount, ofBits}
 use Rattle.graph.specs.Update.{fromSum, toSum}
-use Rattle.sheet.specs.Table.{firstTrue}
-use Rattle.sheet.specs.Answers.{answer}
-use Rattle.sheet.specs.Layout.{setBits, build, redoneWord, redone, emptySheet}
+use Rattle.answers.specs.Table.{firstTrue}
+use Rattle.answers.specs.Answers.{answer}
+use Rattle.sheet_theory.specs.Layout.{setBits, build, redoneWord, redone, emptySheet}
 use Rattle.edit_theory.specs.Edit.{Edit, insertEdge, insertEdgesAt}
 use Rattle.edit_theory.specs.Outcome.{some, someEdge, closes, editedRow, editedBy, editedCount, edited}
 use Rattle.model.specs.Run.{answers, after}

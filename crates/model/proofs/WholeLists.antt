@@ -3,17 +3,17 @@ use mathlib.Core.Path.{_≡_, refl, sym, ap, subst, _∙_}
 use mathlib.Core.List.{List, []}
 use Prim.Native.Nat.{ℕ, _<_}
 use lib.ListN.{length}
-use Rattle.sheet.specs.declared.answer.Answer.{Answer}
-use Rattle.sheet.specs.Answers.{answer, answered}
-use Rattle.sheet.specs.Layout.{Shape, rowAt, countAt, edgeAt, redone}
-use Rattle.sheet.specs.Valid.{Valid}
-use Rattle.sheet.specs.Calls.{emptyAnswer, emptyAfter}
-use Rattle.sheet.proofs.ShapeLaws.{shape-passed}
-use Rattle.sheet.proofs.Refusals.{empty-table}
-use Rattle.sheet.proofs.LayoutLaws.{length-redone, row-redone}
-use Rattle.sheet.proofs.Meaning.{empty-leaves}
-use Rattle.recount.specs.Calls.{Recount}
-use Rattle.recount.proofs.Meaning.{recount-same, validate-iff, valid-validates}
+use Rattle.answers.specs.declared.Answer.{Answer}
+use Rattle.answers.specs.Answers.{answer, answered}
+use Rattle.sheet_theory.specs.Layout.{Shape, rowAt, countAt, edgeAt, redone}
+use Rattle.sheet_theory.specs.Valid.{Valid}
+use Rattle.sheet_theory.specs.Calls.{emptyAnswer, emptyAfter}
+use Rattle.sheet_theory.proofs.ShapeLaws.{shape-passed}
+use Rattle.sheet_theory.proofs.Refusals.{empty-table}
+use Rattle.sheet_theory.proofs.LayoutLaws.{length-redone, row-redone}
+use Rattle.sheet_theory.proofs.Meaning.{empty-leaves}
+use Rattle.recount_theory.specs.Calls.{Recount}
+use Rattle.recount_theory.proofs.Meaning.{recount-same, validate-iff, valid-validates}
 use Rattle.edit_theory.specs.Edit.{Edit}
 use Rattle.edit_theory.specs.Model.{Model, opened, Fresh}
 use Rattle.edit_theory.proofs.FreshLaws.{Modelled, modelled-valid, valid-modelled, fresh-only}

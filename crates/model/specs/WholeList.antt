@@ -2,12 +2,12 @@
 use mathlib.Core.Path.{_≡_}
 use mathlib.Core.List.{List, _∷_, _++_}
 use Prim.Native.Nat.{ℕ, _<_}
-use Rattle.sheet.specs.declared.answer.Answer.{Answer}
-use Rattle.sheet.specs.Answers.{answer}
-use Rattle.sheet.specs.Layout.{Shape, rowAt, countAt, edgeAt, redone}
-use Rattle.sheet.specs.Valid.{Valid}
-use Rattle.sheet.specs.Calls.{emptyAnswer, emptyAfter}
-use Rattle.recount.specs.Calls.{Recount, Validate}
+use Rattle.answers.specs.declared.Answer.{Answer}
+use Rattle.answers.specs.Answers.{answer}
+use Rattle.sheet_theory.specs.Layout.{Shape, rowAt, countAt, edgeAt, redone}
+use Rattle.sheet_theory.specs.Valid.{Valid}
+use Rattle.sheet_theory.specs.Calls.{emptyAnswer, emptyAfter}
+use Rattle.recount_theory.specs.Calls.{Recount, Validate}
 use Rattle.edit_theory.specs.Edit.{Edit}
 use Rattle.edit_theory.specs.Outcome.{editAnswer, editAfter}
 use Rattle.edit_theory.specs.Model.{Model, opened, Fresh}

@@ -1,52 +1,27 @@
 -- The ways out of the calls and of their checks: k is what the checks of the sheet gave. Assumes nothing.
 use mathlib.Core.Path.{_≡_, refl, sym, ap, _∙_}
-use mathlib.Core.Logic.{_⊎_, inl, inr}
-use mathlib.Core.Bool.{not, _||_}
+use mathlib.Core.Logic.{inl, inr}
 use mathlib.Core.List.{List, [], _∷_}
 use Prim.Native.Nat.{ℕ, zero, suc, _*_, _%_, _≤_, _<_}
 use native.Mathlib.Decide.{ℕ-discrete}
 use native.Mathlib.Omega.{arith}
-use lib.Dec.{ltb, eqb}
 use lib.ListN.{length}
 use Rattle.text.specs.Text.{written}
-use Rattle.sheet.specs.declared.answer.Answer.{Answer}
-use Rattle.sheet.specs.Table.{_gives_, Conditions, First, Reflects}
-use Rattle.sheet.specs.Answers.{answer, decided}
-use Rattle.sheet.specs.Layout.{Shape, setBits}
-use Rattle.sheet.proofs.TableLaws.{reflects-or, reflects-not, reflects-lt, reflects-eq, reflects-false, first-true, first-past, first-here, first-next, first-none}
-use Rattle.sheet.proofs.AnswerLaws.{decided-old}
-use Rattle.sheet.proofs.Meaning.{valid-edges-le}
+use Rattle.answers.specs.declared.Answer.{Answer}
+use Rattle.answers.specs.Table.{_gives_, Conditions, First}
+use Rattle.answers.specs.Answers.{answer, decided}
+use Rattle.sheet_theory.specs.Layout.{Shape, setBits}
+use Rattle.answers.proofs.TableLaws.{first-past}
+use Rattle.answers.proofs.AnswerLaws.{decided-old}
+use Rattle.sheet_theory.proofs.Meaning.{valid-edges-le}
 use Rattle.plan_theory.specs.PlanOf.{planOf}
-use Rattle.plan_theory.specs.Calls.{mostBytes, BadPlan, lengthNumber, readConditions, readAnswer, ReadPlan, ShortBuffer, writeConditions, WritePlan}
+use Rattle.plan_theory.specs.Calls.{BadPlan, lengthNumber, readConditions, readAnswer, ReadPlan, ShortBuffer, writeConditions, WritePlan}
 use Rattle.recount.specs.Internal.{SheetNumber}
 use Rattle.recount.proofs.ValidateLaws.{valid-stops, valid-of, valid-passes}
 use Rattle.plan.specs.Internal.{ReadNumber, AppliedAll}
-use Rattle.sheet.proofs.ValidLaws.{accepted-valid}
+use Rattle.sheet_theory.proofs.ValidLaws.{accepted-valid}
 use Rattle.plan_theory.proofs.PlanOfLaws.{plan-length}
-
--- ---- length_number
-
--- the test decides 13
-length-test : (bytes : ℕ) → Reflects (not (eqb (bytes % 8) 0) || ltb mostBytes bytes) ((¬ (bytes % 8 ≡ 0)) ⊎ (mostBytes < bytes))
-length-test bytes = reflects-or (reflects-not (reflects-eq (bytes % 8) 0)) (reflects-lt mostBytes bytes)
-
-module _ (bytes : ℕ) where
-  pub length-broken : (bytes % 8 ≡ 0 → ⊥) → 13 ≡ lengthNumber bytes
-  unfolding lengthNumber
-  length-broken d = sym (first-here _ [] (length-test bytes .shows (inl d)))
-
-  pub length-long : mostBytes < bytes → 13 ≡ lengthNumber bytes
-  unfolding lengthNumber
-  length-long l = sym (first-here _ [] (length-test bytes .shows (inr l)))
-
-  pub length-good : bytes % 8 ≡ 0 → bytes ≤ mostBytes → 0 ≡ lengthNumber bytes
-  unfolding lengthNumber
-  length-good w l =
-      sym (first-next _ [] (reflects-false (length-test bytes) .1 (λ c. elim c [ inl d ↦ d w | inr m ↦ omega (arith, m) ])) ∙ first-none)
-
-pub length-first : (plan : List ℕ) → First (BadPlan plan gives 13 ∷ []) (lengthNumber (length plan))
-unfolding lengthNumber
-length-first plan = first-true (BadPlan plan gives 13 ∷ []) ((not (eqb (length plan % 8) 0) || ltb mostBytes (length plan)) gives 13 ∷ []) (length-test (length plan), refl, λ d. tt)
+use Rattle.plan_theory.proofs.LengthLaws.{length-first}
 
 -- ---- first, and read_number
 

@@ -13,7 +13,7 @@ use Rattle.word.proofs.CountLaws.{lowest-lt}
 use Rattle.text.specs.Text.{Put}
 use Rattle.text.proofs.TextLaws.{put-none, Pieces, pieces-start, pieces-room, pieces-more, pieces-done}
 use Rattle.record.specs.Record.{insertLetter, encoded}
-use Rattle.sheet.specs.Layout.{rowAt, edgeAt}
+use Rattle.sheet_theory.specs.Layout.{rowAt, edgeAt}
 use Rattle.plan_theory.specs.PlanOf.{edgeBytes, rowBytes}
 
 edge-none : (s : List ℕ) (i j : ℕ) → edgeAt s i j ≡ 0 → edgeBytes s i j ≡ []

@@ -2,7 +2,7 @@
 ghost use mathlib.Core.Path.{_≡_};
 ghost use Prim.Native.Nat.{_%_};
 ghost use lib.ListN.{length};
-ghost use Rattle.sheet.specs.Layout.{Shape};
+ghost use Rattle.sheet_theory.specs.Layout.{Shape};
 ghost use Rattle.plan_theory.specs.Records.{numberOn, leftBy};
 ghost use Rattle.plan_theory.specs.Calls.{appliedPlan};
 ghost use Rattle.plan.specs.Internal.{Reached, AppliedAll};

@@ -1,6 +1,6 @@
 // The checks that come before a plan is read.
 ghost use mathlib.Core.Path.{_≡_};
-ghost use Rattle.sheet.specs.Answers.{decided};
+ghost use Rattle.answers.specs.Answers.{decided};
 ghost use Rattle.plan_theory.specs.Calls.{lengthNumber};
 ghost use Rattle.plan.specs.Internal.{ReadNumber};
 use sheet::Refusal;

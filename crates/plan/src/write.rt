@@ -3,7 +3,7 @@ ghost use mathlib.Core.Path.{_≡_};
 ghost use Prim.Native.Nat.{_+_, _≤_, _<_};
 ghost use lib.ListN.{length};
 ghost use Rattle.text.specs.Text.{Put, written};
-ghost use Rattle.sheet.specs.Layout.{Shape};
+ghost use Rattle.sheet_theory.specs.Layout.{Shape};
 ghost use Rattle.record.specs.Record.{insertLetter, encoded};
 ghost use Rattle.plan_theory.specs.PlanOf.{rowBytes, planOf};
 

@@ -9,11 +9,11 @@ use native.Mathlib.Omega.{arith}
 use lib.ListN.{length}
 use Rattle.record.specs.declared.Record.{Record}
 use Rattle.record.specs.declared.Record.the-variants.{Insert, Delete, Malformed}
-use Rattle.sheet.specs.declared.answer.Answer.{Answer}
-use Rattle.sheet.specs.Table.{First}
-use Rattle.sheet.specs.Answers.{answer, decided}
-use Rattle.sheet.proofs.TableLaws.{first-only}
-use Rattle.sheet.proofs.AnswerLaws.{decided-old}
+use Rattle.answers.specs.declared.Answer.{Answer}
+use Rattle.answers.specs.Table.{First}
+use Rattle.answers.specs.Answers.{answer, decided}
+use Rattle.answers.proofs.TableLaws.{first-only}
+use Rattle.answers.proofs.AnswerLaws.{decided-old}
 use Rattle.edit_theory.specs.Edit.{Edit, insertEdge, deleteEdge}
 use Rattle.edit_theory.specs.Outcome.{editNumber, editWords, editAfter}
 use Rattle.edit_theory.specs.Model.{Model, effect, modelConditions, edgeCount}

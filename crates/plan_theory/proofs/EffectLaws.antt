@@ -8,9 +8,9 @@ use native.Mathlib.Nat.{lt-of-not-le}
 use native.Mathlib.Omega.{arith}
 use Rattle.record.specs.declared.Record.the-variants.{Insert, Delete}
 use Rattle.graph.specs.Graph.{Cycle}
-use Rattle.sheet.specs.Table.{_gives_, First}
-use Rattle.sheet.specs.Conditions.{BadVertices}
-use Rattle.sheet.proofs.TableLaws.{first-other}
+use Rattle.answers.specs.Table.{_gives_, First}
+use Rattle.sheet_theory.specs.Conditions.{BadVertices}
+use Rattle.answers.proofs.TableLaws.{first-other}
 use Rattle.edit_theory.specs.Edit.{one, edgeEdit, insertEdge, named, oneIf, marked}
 use Rattle.edit_theory.specs.Table.{SomeEdge, effects}
 use Rattle.edit_theory.specs.Model.{Model, effect, modelConditions}

@@ -8,10 +8,10 @@ use Rattle.sums.specs.Gather.{gather}
 use Rattle.word.specs.Bit.{bitCount, ofBits}
 use Rattle.graph.specs.Update.{fromSum, toSum}
 use Rattle.record.specs.Record.{insertLetter, deleteLetter, encoded, areDigits, decoded}
-use Rattle.sheet.specs.Table.{firstTrue}
-use Rattle.sheet.specs.Answers.{answer}
-use Rattle.sheet.specs.Layout.{setBits, build, redoneWord, redone, emptySheet}
-use Rattle.sheet.proofs.Examples.{D}
+use Rattle.answers.specs.Table.{firstTrue}
+use Rattle.answers.specs.Answers.{answer}
+use Rattle.sheet_theory.specs.Layout.{setBits, build, redoneWord, redone, emptySheet}
+use Rattle.sheet_theory.proofs.Examples.{D}
 use Rattle.edit_theory.specs.Outcome.{some, someEdge, closes, editedRow, editedBy, editedCount, edited}
 use Rattle.plan_theory.specs.Records.{numberOn, applied}
 use Rattle.plan_theory.specs.PlanOf.{edgeBytes, planOf}

@@ -1,4 +1,5 @@
 pub mod Examples
+pub mod LengthLaws
 pub mod Meaning
 pub mod RoundTrip
 pub mod CycleLaws

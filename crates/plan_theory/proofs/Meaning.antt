@@ -10,14 +10,14 @@ use Rattle.sums.specs.Gather.{gather}
 use Rattle.text.specs.Text.{written}
 use Rattle.text.proofs.TextLaws.{written-first, written-rest}
 use Rattle.record.specs.Record.{OfForm}
-use Rattle.sheet.specs.declared.answer.Answer.{Answer}
-use Rattle.sheet.specs.Table.{_gives_, First}
-use Rattle.sheet.specs.Answers.{answer, decided}
-use Rattle.sheet.specs.Layout.{Shape, setBits}
-use Rattle.sheet.specs.Valid.{Valid}
-use Rattle.sheet.proofs.TableLaws.{first-only, first-iff, first-past, first-last, first-accepts}
-use Rattle.sheet.proofs.AnswerLaws.{decided-old, answer-ext}
-use Rattle.recount.proofs.Meaning.{valid-validates}
+use Rattle.answers.specs.declared.Answer.{Answer}
+use Rattle.answers.specs.Table.{_gives_, First}
+use Rattle.answers.specs.Answers.{answer, decided}
+use Rattle.sheet_theory.specs.Layout.{Shape, setBits}
+use Rattle.sheet_theory.specs.Valid.{Valid}
+use Rattle.answers.proofs.TableLaws.{first-only, first-iff, first-past, first-last, first-accepts}
+use Rattle.answers.proofs.AnswerLaws.{decided-old, answer-ext}
+use Rattle.recount_theory.proofs.Meaning.{valid-validates}
 use Rattle.edit_theory.specs.Model.{Model, opened, Fresh}
 use Rattle.edit_theory.proofs.FreshLaws.{modelled-valid, valid-modelled}
 use Rattle.model.specs.Run.{Run}
@@ -27,7 +27,7 @@ use Rattle.plan_theory.specs.Taken.{Taken, Stops, ClosesAt}
 use Rattle.plan_theory.specs.Accepted.{AcceptedPlan}
 use Rattle.plan_theory.specs.PlanOf.{planOf}
 use Rattle.plan_theory.specs.Calls.{BadPlan, readConditions, appliedPlan, readAnswer, readAfter, ReadPlan, ShortBuffer, writeConditions, WritePlan}
-use Rattle.sheet.proofs.ValidLaws.{accepted-valid, valid-passed, valid-rest, valid-refused}
+use Rattle.sheet_theory.proofs.ValidLaws.{accepted-valid, valid-passed, valid-rest, valid-refused}
 use Rattle.plan_theory.proofs.AppliedLaws.{taken-run, applied-taken, applied-place, applied-after, applied-stops, stops-only, taken-not-stops}
 use Rattle.plan_theory.proofs.PlaceLaws.{stops-malformed}
 use Rattle.plan_theory.proofs.PlanOfLaws.{plan-length}

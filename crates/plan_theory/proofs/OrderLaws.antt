@@ -11,7 +11,7 @@ use Rattle.graph.specs.Graph.{_isIn_, Distinct}
 use Rattle.graph.proofs.Lists.{in-either, gather-of}
 use Rattle.record.specs.declared.Record.{Record}
 use Rattle.record.specs.declared.Record.the-variants.{Insert}
-use Rattle.sheet.specs.Layout.{rowAt}
+use Rattle.sheet_theory.specs.Layout.{rowAt}
 use Rattle.plan_theory.specs.PlanOf.{edgeInsert, rowInserts, edgeRecords, fromOf, toOf, Lower, Ascending}
 use Rattle.plan_theory.proofs.PlanOfLaws.{said-of}
 

@@ -20,9 +20,9 @@ use Rattle.record.specs.declared.Record.{Record}
 use Rattle.record.specs.declared.Record.the-variants.{Insert}
 use Rattle.record.specs.Record.{insertLetter, encoded, decoded}
 use Rattle.record.proofs.RecordLaws.{decoded-encoded}
-use Rattle.sheet.specs.Layout.{rowAt, edgeAt, setBits}
-use Rattle.sheet.specs.Valid.{Valid}
-use Rattle.sheet.proofs.Meaning.{valid-edges-le}
+use Rattle.sheet_theory.specs.Layout.{rowAt, edgeAt, setBits}
+use Rattle.sheet_theory.specs.Valid.{Valid}
+use Rattle.sheet_theory.proofs.Meaning.{valid-edges-le}
 use Rattle.edit_theory.specs.Model.{opened, edgeCount}
 use Rattle.edit_theory.proofs.FreshLaws.{valid-modelled, fresh-value}
 use Rattle.plan_theory.specs.Records.{records}

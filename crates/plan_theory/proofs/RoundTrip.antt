@@ -11,14 +11,14 @@ use Rattle.graph.specs.Graph.{_isIn_, Distinct, Edge, Acyclic}
 use Rattle.graph.proofs.Walks.{cycle-widen, cycle-of, reach-refl}
 use Rattle.record.specs.declared.Record.{Record}
 use Rattle.record.specs.declared.Record.the-variants.{Insert, Delete, Malformed}
-use Rattle.sheet.specs.declared.answer.Answer.{Answer}
-use Rattle.sheet.specs.Table.{_gives_, First}
-use Rattle.sheet.specs.Answers.{answer, decided}
-use Rattle.sheet.specs.Layout.{edgeAt, setBits, emptySheet}
-use Rattle.sheet.specs.Valid.{Valid}
-use Rattle.sheet.proofs.TableLaws.{first-only}
-use Rattle.sheet.proofs.ValidLaws.{edge-le, accepted-valid, valid-passed}
-use Rattle.sheet.proofs.Meaning.{empty-edge, empty-valid}
+use Rattle.answers.specs.declared.Answer.{Answer}
+use Rattle.answers.specs.Table.{_gives_, First}
+use Rattle.answers.specs.Answers.{answer, decided}
+use Rattle.sheet_theory.specs.Layout.{edgeAt, setBits, emptySheet}
+use Rattle.sheet_theory.specs.Valid.{Valid}
+use Rattle.answers.proofs.TableLaws.{first-only}
+use Rattle.sheet_theory.proofs.ValidLaws.{edge-le, accepted-valid, valid-passed}
+use Rattle.sheet_theory.proofs.Meaning.{empty-edge, empty-valid}
 use Rattle.edit_theory.specs.Edit.{Edit, insertEdge}
 use Rattle.edit_theory.specs.Outcome.{editNumber, editWords}
 use Rattle.edit_theory.specs.Model.{Model, modelConditions}

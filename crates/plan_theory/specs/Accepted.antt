@@ -4,10 +4,10 @@ use mathlib.Core.List.{List, map}
 use Prim.Native.Nat.{ℕ}
 use lib.ListN.{length, replicate}
 use Rattle.record.specs.declared.Record.{Record}
-use Rattle.sheet.specs.declared.answer.Answer.{Answer}
-use Rattle.sheet.specs.Answers.{answer}
-use Rattle.sheet.specs.Layout.{setBits}
-use Rattle.sheet.specs.Valid.{Valid}
+use Rattle.answers.specs.declared.Answer.{Answer}
+use Rattle.answers.specs.Answers.{answer}
+use Rattle.sheet_theory.specs.Layout.{setBits}
+use Rattle.sheet_theory.specs.Valid.{Valid}
 use Rattle.edit_theory.specs.Model.{Model, opened, Fresh}
 use Rattle.model.specs.Run.{Run, answers, after}
 use Rattle.model.specs.WholeList.{WholeList}

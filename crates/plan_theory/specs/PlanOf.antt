@@ -11,7 +11,7 @@ use Rattle.graph.specs.Graph.{_isIn_}
 use Rattle.record.specs.declared.Record.{Record}
 use Rattle.record.specs.declared.Record.the-variants.{Insert, Delete, Malformed}
 use Rattle.record.specs.Record.{insertLetter, encoded}
-use Rattle.sheet.specs.Layout.{rowAt}
+use Rattle.sheet_theory.specs.Layout.{rowAt}
 
 -- x for the edge from i to j, if there is one, else nothing
 abbrev pub ifEdge : {A : Type 0} → List ℕ → ℕ → ℕ → List A → List A

@@ -6,7 +6,7 @@ use Prim.Native.Nat.{ℕ, suc, _+_, _-_, _≤_, _<_}
 use native.Mathlib.Omega.{arith}
 use lib.ListN.{length, take, set, length-set}
 use lib.Seq.{length-take-le, take-suc-set}
-use Rattle.sheet.specs.Layout.{countAt, edgeAt}
+use Rattle.sheet_theory.specs.Layout.{countAt, edgeAt}
 use Rattle.query.specs.declared.walk.Next.{Next}
 use Rattle.query_theory.specs.Walk.{headed, walked}
 use Rattle.query_theory.specs.Unrank.{walk}

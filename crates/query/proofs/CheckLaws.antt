@@ -12,12 +12,12 @@ use lib.Dec.{leb}
 use lib.ListN.{length}
 use Rattle.word.specs.Bit.{hasBit}
 use Rattle.word.proofs.BitLaws.{has-true, has-false}
-use Rattle.sheet.specs.Table.{Tests, firstTrue}
-use Rattle.sheet.specs.Layout.{Shape, rowAt, countAt, edgeAt}
-use Rattle.sheet.specs.Conditions.{vertexTests, sizedTests}
-use Rattle.sheet.specs.Internal.{shapeNumber, verticesNumber}
-use Rattle.sheet.proofs.TableLaws.{reflects-false, reflects-or, reflects-le, first-here, first-next, first-none, first-stops, first-passes}
-use Rattle.sheet.proofs.ShapeLaws.{sized-stops, sized-passes, vertices-ready}
+use Rattle.answers.specs.Table.{Tests, firstTrue}
+use Rattle.sheet_theory.specs.Layout.{Shape, rowAt, countAt, edgeAt}
+use Rattle.sheet_theory.specs.Conditions.{vertexTests, sizedTests}
+use Rattle.sheet_theory.specs.Internal.{shapeNumber, verticesNumber}
+use Rattle.answers.proofs.TableLaws.{reflects-false, reflects-or, reflects-le, first-here, first-next, first-none, first-stops, first-passes}
+use Rattle.sheet_theory.proofs.ShapeLaws.{sized-stops, sized-passes, vertices-ready}
 use Rattle.query_theory.specs.ReachesWithout.{edgeTests, reachesWithoutNumber}
 use Rattle.query_theory.specs.Unrank.{numberTests}
 use Rattle.query.specs.Internal.{Greater, beforeWalk}

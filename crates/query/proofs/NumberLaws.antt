@@ -11,7 +11,7 @@ use Rattle.sums.proofs.SumLaws.{sum-cong}
 use Rattle.word.specs.Bit.{Lowest, LowestCleared}
 use Rattle.word.proofs.MaskLaws.{bit-below}
 use Rattle.word.proofs.CountLaws.{Adding, adding-start, adding-more, adding-done}
-use Rattle.sheet.specs.Layout.{rowAt, countAt, edgeAt}
+use Rattle.sheet_theory.specs.Layout.{rowAt, countAt, edgeAt}
 use Rattle.query_theory.specs.Number.{passed, passedOver, end}
 use Rattle.query_theory.specs.Rank.{pathNumber}
 use Rattle.query.proofs.PathLaws.{drop-here, drop-both, drop-last}

@@ -12,7 +12,7 @@ use lib.ListN.{length, getD, drop}
 use lib.Seq.{drop-cons, drop-length}
 use Rattle.word.specs.Bit.{hasBit}
 use Rattle.word.proofs.BitLaws.{has-true, has-false}
-use Rattle.sheet.specs.Layout.{rowAt, edgeAt}
+use Rattle.sheet_theory.specs.Layout.{rowAt, edgeAt}
 use Rattle.query_theory.specs.Rank.{someNoVertex, gap, broken}
 use Rattle.query.specs.Internal.{Vertices}
 

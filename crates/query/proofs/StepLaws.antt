@@ -12,8 +12,8 @@ use Rattle.word.specs.Bit.{bit, Lowest, LowestCleared}
 use Rattle.word.proofs.BitLaws.{bit-zero, bit-clear-same, bit-clear-other, clear-below}
 use Rattle.word.proofs.MaskLaws.{bit-below}
 use Rattle.word.proofs.CountLaws.{lowest-lt}
-use Rattle.sheet.specs.Layout.{rowAt, countAt, edgeAt}
-use Rattle.sheet.proofs.ValidLaws.{edge-le}
+use Rattle.sheet_theory.specs.Layout.{rowAt, countAt, edgeAt}
+use Rattle.sheet_theory.proofs.ValidLaws.{edge-le}
 use Rattle.query_theory.specs.Number.{passed}
 use Rattle.query.specs.Internal.{Stepped}
 use Rattle.query_theory.proofs.WalkLaws.{passed-far, passed-next, tried-goes, tried-passes}

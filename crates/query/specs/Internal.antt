@@ -4,9 +4,9 @@ use mathlib.Core.Logic.{_⊎_}
 use mathlib.Core.List.{List, []}
 use Prim.Native.Nat.{ℕ, _≤_, _<_}
 use lib.ListN.{length, getD, take}
-use Rattle.sheet.specs.Table.{firstTrue}
-use Rattle.sheet.specs.Layout.{countAt, edgeAt}
-use Rattle.sheet.specs.Conditions.{vertexTests, sizedTests}
+use Rattle.answers.specs.Table.{firstTrue}
+use Rattle.sheet_theory.specs.Layout.{countAt, edgeAt}
+use Rattle.sheet_theory.specs.Conditions.{vertexTests, sizedTests}
 use Rattle.query.specs.declared.walk.Next.{Next}
 use Rattle.query_theory.specs.Walk.{goes, passes, tried}
 use Rattle.query_theory.specs.Unrank.{numberTests, walk}

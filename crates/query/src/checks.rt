@@ -2,7 +2,7 @@
 ghost use mathlib.Core.Path.{_≡_};
 ghost use Prim.Native.Nat.{_<_};
 ghost use Rattle.word.specs.Bit.{hasBit};
-ghost use Rattle.sheet.specs.Layout.{Shape, rowAt};
+ghost use Rattle.sheet_theory.specs.Layout.{Shape, rowAt};
 ghost use Rattle.query_theory.specs.ReachesWithout.{reachesWithoutNumber};
 ghost use Rattle.query_theory.specs.Rank.{someNoVertex, broken};
 ghost use Rattle.query.specs.Internal.{Vertices, Greater, beforeWalk};

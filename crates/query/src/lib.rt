@@ -3,7 +3,7 @@
 ghost use mathlib.Core.Path.{_≡_};
 ghost use Prim.Native.Nat.{_<_};
 ghost use lib.ListN.{length};
-ghost use Rattle.sheet.specs.Layout.{Shape};
+ghost use Rattle.sheet_theory.specs.Layout.{Shape};
 ghost use Rattle.query_theory.specs.ReachesWithout.{product, reachesWithoutAnswer};
 ghost use Rattle.query_theory.specs.Unrank.{unrankAnswer, unrankAfter};
 ghost use Rattle.query_theory.specs.Rank.{rankAnswer};

@@ -2,7 +2,7 @@
 ghost use mathlib.Core.Path.{_≡_};
 ghost use Prim.Native.Nat.{_%_, _^_, _<_};
 ghost use lib.ListN.{length};
-ghost use Rattle.sheet.specs.Layout.{Shape, countAt, edgeAt};
+ghost use Rattle.sheet_theory.specs.Layout.{Shape, countAt, edgeAt};
 ghost use Rattle.query_theory.specs.Number.{passed};
 ghost use Rattle.query_theory.specs.Rank.{pathNumber};
 ghost use Rattle.query.specs.Internal.{Vertices};

@@ -2,7 +2,7 @@
 ghost use mathlib.Core.Path.{_≡_};
 ghost use Prim.Native.Nat.{_<_};
 ghost use lib.ListN.{length};
-ghost use Rattle.sheet.specs.Layout.{Shape};
+ghost use Rattle.sheet_theory.specs.Layout.{Shape};
 ghost use Rattle.query.specs.Internal.{Stepped, WalkKept};
 use sheet::Sheet;
 use sheet::layout;

@@ -17,15 +17,15 @@ use Rattle.graph.proofs.Walks.{walk-below, path-length-le}
 use Rattle.graph.proofs.Bound.{paths-below}
 use Rattle.graph.proofs.Through.{through-le, paths-through, path-without-iff}
 use Rattle.text.specs.Text.{written}
-use Rattle.sheet.specs.declared.answer.Answer.{Answer}
-use Rattle.sheet.specs.Table.{Conditions, First}
-use Rattle.sheet.specs.Answers.{answer, decided, answered}
-use Rattle.sheet.specs.Layout.{Shape, countAt, edgeAt}
-use Rattle.sheet.specs.Conditions.{NoVertex, vertexConditions}
-use Rattle.sheet.specs.Valid.{Valid}
-use Rattle.sheet.proofs.TableLaws.{first-other, first-past, first-rest}
-use Rattle.sheet.proofs.ShapeLaws.{shape-not, shape-passed, shape-rest}
-use Rattle.sheet.proofs.ValidLaws.{edge-le, valid-count}
+use Rattle.answers.specs.declared.Answer.{Answer}
+use Rattle.answers.specs.Table.{Conditions, First}
+use Rattle.answers.specs.Answers.{answer, decided, answered}
+use Rattle.sheet_theory.specs.Layout.{Shape, countAt, edgeAt}
+use Rattle.sheet_theory.specs.Conditions.{NoVertex, vertexConditions}
+use Rattle.sheet_theory.specs.Valid.{Valid}
+use Rattle.answers.proofs.TableLaws.{first-other, first-past, first-rest}
+use Rattle.sheet_theory.proofs.ShapeLaws.{shape-not, shape-passed, shape-rest}
+use Rattle.sheet_theory.proofs.ValidLaws.{edge-le, valid-count}
 use Rattle.query_theory.specs.Before.{Before}
 use Rattle.query_theory.specs.Number.{passedOver, end}
 use Rattle.query_theory.specs.ReachesWithout.{edgeConditions, reachesWithoutNumber, product, reachesWithoutAnswer, PathWithout}

@@ -8,11 +8,11 @@ use Prim.Native.Nat.{ℕ, _%_, _^_, _<_}
 use lib.Dec.{ltb, leb, eqb}
 use lib.ListN.{length}
 use Rattle.graph.specs.Graph.{_isIn_}
-use Rattle.sheet.specs.declared.answer.Answer.{Answer}
-use Rattle.sheet.specs.Table.{_gives_, Conditions, Tests, firstTrue}
-use Rattle.sheet.specs.Answers.{answered}
-use Rattle.sheet.specs.Layout.{countAt, edgeAt}
-use Rattle.sheet.specs.Conditions.{NoVertex, sized, sizedTests}
+use Rattle.answers.specs.declared.Answer.{Answer}
+use Rattle.answers.specs.Table.{_gives_, Conditions, Tests, firstTrue}
+use Rattle.answers.specs.Answers.{answered}
+use Rattle.sheet_theory.specs.Layout.{countAt, edgeAt}
+use Rattle.sheet_theory.specs.Conditions.{NoVertex, sized, sizedTests}
 use Rattle.query_theory.specs.Number.{passedOver, end}
 
 -- 3: some entry of the list, wherever it stands, is n or more

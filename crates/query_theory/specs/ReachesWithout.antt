@@ -8,11 +8,11 @@ use lib.Dec.{eqb}
 use lib.ListN.{length}
 use Rattle.graph.specs.Graph.{IsPath}
 use Rattle.graph.specs.Uses.{Uses, oneEdge}
-use Rattle.sheet.specs.declared.answer.Answer.{Answer}
-use Rattle.sheet.specs.Table.{_gives_, Conditions, Tests, firstTrue}
-use Rattle.sheet.specs.Answers.{answered}
-use Rattle.sheet.specs.Layout.{countAt, edgeAt}
-use Rattle.sheet.specs.Conditions.{vertexConditions, vertexTests, sized, sizedTests}
+use Rattle.answers.specs.declared.Answer.{Answer}
+use Rattle.answers.specs.Table.{_gives_, Conditions, Tests, firstTrue}
+use Rattle.answers.specs.Answers.{answered}
+use Rattle.sheet_theory.specs.Layout.{countAt, edgeAt}
+use Rattle.sheet_theory.specs.Conditions.{vertexConditions, vertexTests, sized, sizedTests}
 
 -- 7: the edge is not there
 abbrev pub edgeConditions : List ℕ → ℕ → ℕ → Conditions

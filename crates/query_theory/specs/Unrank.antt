@@ -6,11 +6,11 @@ use Prim.Native.Nat.{ℕ, _≤_, _<_}
 use lib.Dec.{ltb, leb, eqb}
 use lib.ListN.{length, take}
 use Rattle.text.specs.Text.{written}
-use Rattle.sheet.specs.declared.answer.Answer.{Answer}
-use Rattle.sheet.specs.Table.{_gives_, Conditions, Tests, firstTrue}
-use Rattle.sheet.specs.Answers.{decided, answered}
-use Rattle.sheet.specs.Layout.{countAt, edgeAt}
-use Rattle.sheet.specs.Conditions.{vertexConditions, vertexTests, sized, sizedTests}
+use Rattle.answers.specs.declared.Answer.{Answer}
+use Rattle.answers.specs.Table.{_gives_, Conditions, Tests, firstTrue}
+use Rattle.answers.specs.Answers.{decided, answered}
+use Rattle.sheet_theory.specs.Layout.{countAt, edgeAt}
+use Rattle.sheet_theory.specs.Conditions.{vertexConditions, vertexTests, sized, sizedTests}
 use Rattle.query_theory.specs.Walk.{walked}
 
 -- the walk from i to j by the number k, over a sheet as it stands, of at most n vertices

@@ -1,158 +1,29 @@
--- Filling the counts row by row, each from those of its successors, in an order in which every edge leads to an earlier vertex: the
--- counts become the numbers of paths. Then the ways out of `recount`: r is what the call answers, k what the check of the shape gave.
--- Assumes nothing.
+-- The ways out of `recount`: r is what the call answers, k what the check of the shape gave. Assumes nothing.
 use mathlib.Core.Path.{_≡_, refl, sym, ap, _∙_, subst}
-use mathlib.Core.Logic.{_⊎_, inl, inr}
+use mathlib.Core.Logic.{inl, inr}
 use mathlib.Core.Bool.{Bool, true, false}
 use mathlib.Core.List.{List}
-use Prim.Native.Nat.{ℕ, _+_, _*_, _%_, _^_, _≤_, _<_}
-use native.Mathlib.Nat.{mod-mod, zero-mul}
-use native.Mathlib.Decide.{decLt, ℕ-discrete}
+use Prim.Native.Nat.{ℕ, _%_, _^_, _<_}
 use native.Mathlib.Omega.{arith}
-use lib.ListN.{length, getD, List·getD-eq-default}
-use Rattle.sums.specs.Sum.{sum, delta}
-use Rattle.sums.specs.Modulo.{Congruent}
-use Rattle.sums.proofs.ModuloLaws.{congruent-add, congruent-mul, congruent-sum}
-use Rattle.word.specs.Bit.{bit}
+use lib.ListN.{length, getD}
 use Rattle.graph.specs.Graph.{Exactly, IsPath, Cycle}
 use Rattle.graph.specs.Count.{pathCount}
-use Rattle.graph.proofs.Recurrence.{pathCount-recurrence, pathCount-cong}
-use Rattle.sheet.specs.Table.{Reflects, First}
-use Rattle.sheet.specs.Conditions.{StrayRow}
-use Rattle.sheet.specs.Layout.{Shape, rowAt, countAt, edgeAt, setBits}
-use Rattle.sheet.specs.Internal.{successorsSum, RowsBelow, shapeNumber}
-use Rattle.sheet.specs.declared.answer.Answer.{Answer}
-use Rattle.sheet.specs.Answers.{answer}
-use Rattle.sheet.proofs.TableLaws.{reflects-false}
-use Rattle.sheet.proofs.ValidLaws.{paths-exactly, paths-fit}
-use Rattle.sheet.proofs.LayoutLaws.{place-apart, redone-ext, length-redone, row-redone, count-redone, rest-redone}
-use Rattle.sheet.proofs.ShapeLaws.{shape-of, shape-refused, shape-passed}
-use Rattle.sheet.proofs.AnswerLaws.{decided-old}
-use Rattle.sheet.proofs.RowLaws.{setBits-cong}
-use Rattle.recount.specs.Calls.{rowConditions, recountConditions, Recounted, Recount}
-use Rattle.recount.specs.Internal.{RowFilled, ColumnsFilled, vertexAt, Ordered, OrderFound, counted}
-use Rattle.recount.proofs.OrderLaws.{ordered-acyclic}
-
--- ---- the counts filled so far
-
--- t is s with the counts from the first k vertices of the order v to the w columns from c on worked out
-pub record Filled (n : ℕ) (s : List ℕ) (v : ℕ → ℕ) (c w k : ℕ) (t : List ℕ) : Type 0 where
-  pub long : length t ≡ length s
-  pub rows : (i : ℕ) → i < n → rowAt t i ≡ rowAt s i
-  pub done : (m : ℕ) → m < k → (j : ℕ) → c ≤ j → j < c + w → countAt n t (v m) j ≡ pathCount n (edgeAt s) (v m) j % 2 ^ 64
-  pub kept : (i j : ℕ) → i < n → j < n → (j < c) ⊎ (c + w ≤ j) → countAt n t i j ≡ countAt n s i j
-
-module _ (n : ℕ) (s l : List ℕ) (h : Ordered n s l) (shape : Shape n s) (c w : ℕ) (within : c + w ≤ n) where
-  pub filled-start : Filled n s (vertexAt l) c w 0 s
-  filled-start = record { long = refl; rows = λ i q. refl; done = λ m q. absurd (omega arith); kept = λ i j hi hj q. refl }
-
-  -- ---- one row more
-
-  module _ (t u : List ℕ) (k : ℕ) (hk : k < n) (f : Filled n s (vertexAt l) c w k t) (r : RowFilled n t (vertexAt l k) c w u) where
-    -- an edge leads to a vertex whose counts are worked out
-    term : (j : ℕ) → c ≤ j → j < c + w → (b : ℕ) → b < n
-        → Congruent (2 ^ 64) (edgeAt s (vertexAt l k) b * countAt n t b j) (edgeAt s (vertexAt l k) b * pathCount n (edgeAt s) b j)
-    term j lo hi b hb =
-        let i = vertexAt l k in
-        elim (decLt 0 (edgeAt s i b)) [
-          | yes e ↦
-              let o = h .order .earlier k hk b hb e in
-              congruent-mul (2 ^ 64) (edgeAt s i b) (countAt n t b j) (pathCount n (edgeAt s) b j)
-              (rw (← (o .2)) (ap (λ (x : ℕ). x % 2 ^ 64) (f .done (o .0) (o .1) j lo hi) ∙ mod-mod _ (2 ^ 64)))
-          | no e ↦ let z : edgeAt s i b ≡ 0 = omega arith in rw z (simp zero-mul)
-        ]
-
-    -- so the recurrence gives its own
-    now-done : (j : ℕ) → c ≤ j → j < c + w → countAt n u (vertexAt l k) j ≡ pathCount n (edgeAt s) (vertexAt l k) j % 2 ^ 64
-    unfolding successorsSum
-    now-done j lo hi =
-        let i = vertexAt l k in
-        let vertex = h .order .vertex k hk in
-        r .filled j lo hi
-        ∙ ap (λ (x : ℕ). (delta i j + sum n (λ b. bit x b * countAt n t b j)) % 2 ^ 64) (f .rows i vertex)
-        ∙ congruent-add (2 ^ 64) (delta i j) _ (delta i j) _ refl (congruent-sum (2 ^ 64) n _ _ (term j lo hi))
-        ∙ ap (λ (x : ℕ). x % 2 ^ 64) (sym (pathCount-recurrence n (edgeAt s) (ordered-acyclic n s l h) i j vertex (omega arith)))
-
-    -- the counts from another vertex, and those to other columns, stay
-    stays : (i j : ℕ) → j < n → (i ≡ vertexAt l k → (j < c) ⊎ (c + w ≤ j)) → countAt n u i j ≡ countAt n t i j
-    stays i j hj other =
-        elim (ℕ-discrete i (vertexAt l k)) [
-          | yes e ↦ rw e (r .kept _ (elim (other e) [ inl q ↦ inl (omega arith) | inr q ↦ inr (omega arith) ]))
-          | no d ↦ r .kept _ (elim (place-apart n i (vertexAt l k) j d hj) [ inl q ↦ inl (omega arith) | inr q ↦ inr (omega (arith, within)) ])
-        ]
-
-    pub filled-more : Filled n s (vertexAt l) c w (k + 1) u
-    filled-more = record {
-      long = r .long ∙ f .long;
-      rows = λ i hi. r .kept i (inl (omega arith)) ∙ f .rows i hi;
-      done = λ m q j lo hi.
-          elim (ℕ-discrete (vertexAt l m) (vertexAt l k)) [
-            | yes e ↦ rw e (now-done j lo hi)
-            | no d ↦ elim (ℕ-discrete m k) [
-              | yes e ↦ absurd (d (ap (vertexAt l) e))
-              | no z ↦ stays (vertexAt l m) j (omega (arith, within)) (λ e. absurd (d e)) ∙ f .done m (omega (arith, z)) j lo hi
-            ]
-          ];
-      kept = λ i j hi hj q. stays i j hj (λ e. q) ∙ f .kept i j hi hj q;
-    }
-
-  -- ---- all rows
-
-  pub filled-all : (t : List ℕ) (k : ℕ) → Filled n s (vertexAt l) c w k t → k ≡ n → ColumnsFilled n s c w t
-  filled-all t k f e = record {
-    long = f .long;
-    rows = f .rows;
-    filled = λ i j hi hj lo q. let o = h .all i hi in rw (← (o .2)) (f .done (o .0) (omega (arith, o .1)) j lo q);
-    kept = f .kept;
-  }
-
--- the rows stay, and with them the shape, the order and what the edges lead to
-module _ (n : ℕ) (s t : List ℕ) (long : length t ≡ length s) (rows : (i : ℕ) → i < n → rowAt t i ≡ rowAt s i) where
-  pub same-shape : Shape n s → Shape n t
-  same-shape shape = record { low = shape .low; high = shape .high; long = long ∙ shape .long }
-
-  pub same-below : RowsBelow n s → RowsBelow n t
-  same-below below i hi = rw (rows i hi) (below i hi)
-
-  pub same-ordered : (l : List ℕ) → Ordered n s l → Ordered n t l
-  same-ordered l h = record {
-    long = h .long;
-    order = record {
-      vertex = h .order .vertex;
-      earlier = λ m q b hb e. h .order .earlier m q b hb (subst (λ (x : ℕ). 0 < bit x b) (rows _ (h .order .vertex m q)) e);
-    };
-    all = h .all;
-  }
-
--- ---- columns after columns
-
-pub columns-none : (n : ℕ) (s : List ℕ) → ColumnsFilled n s 0 0 s
-columns-none n s = record { long = refl; rows = λ i q. refl; filled = λ i j hi hj lo q. absurd (omega arith); kept = λ i j hi hj q. refl }
-
--- those below c, and then those from a on, among which are all the next after c
-pub columns-more : (n : ℕ) (s t u : List ℕ) (c a w : ℕ) → ColumnsFilled n s 0 c t → ColumnsFilled n t a w u → a ≤ c
-    → ((j : ℕ) → j < n → j < c + w → j < a + w) → ColumnsFilled n s 0 (c + w) u
-columns-more n s t u c a w f g low holds =
-    record {
-      long = g .long ∙ f .long;
-      rows = λ i hi. g .rows i hi ∙ f .rows i hi;
-      filled = λ i j hi hj lo q.
-          elim (decLt j a) [
-            | yes p ↦ g .kept i j hi hj (inl p) ∙ f .filled i j hi hj lo (omega arith)
-            | no p ↦
-                g .filled i j hi hj (omega arith) (holds j hj (omega arith))
-                ∙ ap (λ (x : ℕ). x % 2 ^ 64) (pathCount-cong n (edgeAt t) (edgeAt s) (λ x y hx hy. ap (λ (z : ℕ). bit z y) (f .rows x hx)) i j hi)
-          ];
-      kept = λ i j hi hj q. elim q [ inl p ↦ absurd (omega arith) | inr p ↦ g .kept i j hi hj (inr (omega arith)) ∙ f .kept i j hi hj (inr (omega arith)) ];
-    }
-
-pub columns-all : (n : ℕ) (s t : List ℕ) (c : ℕ) → Shape n s → ColumnsFilled n s 0 c t → n ≤ c → t ≡ counted n s
-columns-all n s t c shape f e =
-    redone-ext n (rowAt s) (λ i j. pathCount n (edgeAt s) i j % 2 ^ 64) s t (f .long) (f .rows)
-    (λ i j hi hj. f .filled i j hi hj (omega arith) (omega arith))
-    (λ x q. List·getD-eq-default t 0 (omega (arith, f .long, shape .long)) ∙ sym (List·getD-eq-default s 0 (omega (arith, shape .long))))
-
--- ---- the ways out of `recount`
+use Rattle.answers.specs.Table.{Reflects, First}
+use Rattle.sheet_theory.specs.Conditions.{StrayRow}
+use Rattle.sheet_theory.specs.Layout.{Shape, rowAt, countAt, edgeAt, setBits}
+use Rattle.sheet_theory.specs.Internal.{shapeNumber}
+use Rattle.answers.specs.declared.Answer.{Answer}
+use Rattle.answers.specs.Answers.{answer}
+use Rattle.answers.proofs.TableLaws.{reflects-false}
+use Rattle.sheet_theory.proofs.ValidLaws.{paths-exactly, paths-fit}
+use Rattle.sheet_theory.proofs.LayoutLaws.{redone-ext, length-redone, row-redone, count-redone, rest-redone}
+use Rattle.sheet_theory.proofs.ShapeLaws.{shape-of, shape-refused, shape-passed}
+use Rattle.answers.proofs.AnswerLaws.{decided-old}
+use Rattle.sheet_theory.proofs.SetBitsLaws.{setBits-cong}
+use Rattle.recount_theory.specs.Calls.{rowConditions, recountConditions, Recounted, Recount}
+use Rattle.count_rows.specs.Internal.{counted}
+use Rattle.order.specs.Internal.{OrderFound}
+use Rattle.order.proofs.OrderLaws.{ordered-acyclic}
 
 -- a sheet whose counts are the numbers of paths, and which is s besides, is s recounted
 recounted-of : (n : ℕ) (s t : List ℕ) → Shape n s → ¬ (Cycle n (edgeAt s)) → t ≡ counted n s → Recounted n s t

@@ -6,19 +6,20 @@ use mathlib.Core.Bool.{Bool, true, false}
 use mathlib.Core.List.{List, [], _∷_}
 use Prim.Native.Nat.{ℕ, _<_}
 use lib.ListN.{length}
-use Rattle.sheet.specs.Layout.{Shape}
-use Rattle.sheet.specs.Table.{_gives_, Conditions, First, Reflects}
-use Rattle.sheet.specs.Conditions.{StrayRow, sized}
-use Rattle.sheet.specs.Valid.{Valid, validConditions}
-use Rattle.sheet.specs.Internal.{RowHolds, shapeNumber}
-use Rattle.sheet.specs.declared.answer.Answer.{Answer}
-use Rattle.sheet.specs.Answers.{answer}
-use Rattle.sheet.proofs.TableLaws.{reflects-none, reflects-false, reflects-iff, first-only, first-more}
-use Rattle.sheet.proofs.ValidLaws.{valid-iff-holds, accepted-valid, valid-passed}
-use Rattle.sheet.proofs.ShapeLaws.{shape-of, shape-refused, shape-passed}
-use Rattle.recount.specs.Internal.{SheetNumber, OrderFound}
-use Rattle.recount.specs.Calls.{Validate}
-use Rattle.recount.proofs.OrderLaws.{ordered-acyclic}
+use Rattle.sheet_theory.specs.Layout.{Shape}
+use Rattle.answers.specs.Table.{_gives_, Conditions, First, Reflects}
+use Rattle.sheet_theory.specs.Conditions.{StrayRow, sized}
+use Rattle.sheet_theory.specs.Valid.{Valid, validConditions}
+use Rattle.sheet_theory.specs.Internal.{RowHolds, shapeNumber}
+use Rattle.answers.specs.declared.Answer.{Answer}
+use Rattle.answers.specs.Answers.{answer}
+use Rattle.answers.proofs.TableLaws.{reflects-none, reflects-false, reflects-iff, first-only, first-more}
+use Rattle.sheet_theory.proofs.ValidLaws.{valid-iff-holds, accepted-valid, valid-passed}
+use Rattle.sheet_theory.proofs.ShapeLaws.{shape-of, shape-refused, shape-passed}
+use Rattle.recount.specs.Internal.{SheetNumber}
+use Rattle.order.specs.Internal.{OrderFound}
+use Rattle.recount_theory.specs.Calls.{Validate}
+use Rattle.order.proofs.OrderLaws.{ordered-acyclic}
 
 -- ---- the ways out of `is_valid`
 

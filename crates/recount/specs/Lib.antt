@@ -1,3 +1,1 @@
-pub mod Calls
 pub mod Internal
-pub mod Blocks

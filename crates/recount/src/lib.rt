@@ -1,31 +1,28 @@
 // The counts of a sheet worked out afresh from its rows, and the test whether a sheet is valid. The calls of this file answer every n,
 // every length and all words.
 ghost use mathlib.Core.Path.{_≡_};
-ghost use Rattle.sheet.specs.Table.{Reflects};
-ghost use Rattle.sheet.specs.Layout.{Shape};
-ghost use Rattle.sheet.specs.Valid.{Valid};
-ghost use Rattle.sheet.specs.Internal.{RowsBelow};
-ghost use Rattle.recount.specs.Calls.{Recount, Validate};
-ghost use Rattle.recount.specs.Internal.{SheetNumber, counted, Ordered};
+ghost use Rattle.answers.specs.Table.{Reflects};
+ghost use Rattle.sheet_theory.specs.Layout.{Shape};
+ghost use Rattle.sheet_theory.specs.Valid.{Valid};
+ghost use Rattle.sheet_theory.specs.Internal.{RowsBelow};
+ghost use Rattle.recount_theory.specs.Calls.{Recount, Validate};
+ghost use Rattle.recount.specs.Internal.{SheetNumber};
+ghost use Rattle.count_rows.specs.Internal.{counted};
+ghost use Rattle.order.specs.Internal.{Ordered};
 use sheet::Answer;
 use sheet::Refusal;
 use sheet::Sheet;
-
-mod blocks;
-mod checks;
-mod order;
-mod rows;
 
 // The counts, in the order given: each from those of its successors, which are earlier.
 fn fill_counts(n: usize, sheet: &mut [u64], order: &[usize; Sheet::VERTICES])
     requires { ⌜ (Shape n (now sheet)) × (RowsBelow n (now sheet)) × (Ordered n (now sheet) (now order)) ⌝ }
     ensures { λ r. ⌜ now (sheet .exit) ≡ counted n (now (sheet .entry)) ⌝ }
 {
-    if n < Sheet::COLUMNS {
-        rows::fill_rows(n, sheet, order);
+    if n < count_blocks::COLUMNS {
+        count_rows::fill_rows(n, sheet, order);
         return;
     }
-    blocks::fill_blocks(n, sheet, order);
+    count_blocks::fill_blocks(n, sheet, order);
 }
 
 // The counts worked out afresh from the rows (document 01: the survey). Refused by 1, 2, 4, 8, before a word is written. The
@@ -37,7 +34,7 @@ pub fn recount(n: usize, sheet: &mut [u64]) -> Answer
     if number != 0 {
         return Answer::refused(number);
     }
-    if checks::has_stray_row(n, sheet) {
+    if sheet::checks::has_stray_row(n, sheet) {
         return Answer::refused(Refusal::STRAY_BIT);
     }
     let mut order = [0usize; Sheet::VERTICES];
@@ -54,17 +51,17 @@ fn is_valid(n: usize, sheet: &[u64]) -> bool
     requires { ⌜ Shape n (now sheet) ⌝ }
     ensures { λ r. ⌜ Reflects r (Valid n (now (sheet .entry))) ⌝ }
 {
-    if checks::has_stray_row(n, sheet) {
+    if sheet::checks::has_stray_row(n, sheet) {
         return false;
     }
     let mut found = [0usize; Sheet::VERTICES];
     if !order::find_order(n, sheet, &mut found) {
         return false;
     }
-    if n < Sheet::COLUMNS {
-        return rows::rows_hold(n, sheet);
+    if n < count_blocks::COLUMNS {
+        return count_rows::rows_hold(n, sheet);
     }
-    blocks::blocks_hold(n, sheet, &found)
+    count_blocks::blocks_hold(n, sheet, &found)
 }
 
 // Whether the sheet is valid, whoever wrote it (document 01: the test of a stored sheet). Refused by 1, 2. The value is 1 or 0.

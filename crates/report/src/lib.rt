@@ -2,7 +2,7 @@
 ghost use mathlib.Core.Path.{_≡_};
 ghost use lib.ListN.{length, replicate};
 ghost use Rattle.text.specs.Text.{written};
-ghost use Rattle.report.specs.Listing.{listing, inputBytes};
+ghost use Rattle.report_theory.specs.Listing.{listing, inputBytes};
 use sheet::Sheet;
 
 mod lines;

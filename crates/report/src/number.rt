@@ -2,7 +2,7 @@
 ghost use Prim.Native.Nat.{_+_, _≤_};
 ghost use lib.ListN.{length};
 ghost use Rattle.text.specs.Text.{Put};
-ghost use Rattle.report.specs.Lines.{decimal};
+ghost use Rattle.report_theory.specs.Lines.{decimal};
 
 // Puts a number, without leading zeros, into the buffer from a place on: the place after it.
 pub(crate) fn put(out: &mut [u8], at: usize, x: u64) -> usize

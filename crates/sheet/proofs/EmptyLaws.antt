@@ -8,11 +8,11 @@ use native.Mathlib.Omega.{arith}
 use lib.ListN.{length, getD, replicate, length-replicate, List·getD-eq-default}
 use Rattle.sums.specs.Sum.{delta}
 use Rattle.sums.proofs.SumLaws.{delta-refl, delta-diff}
-use Rattle.sheet.specs.Layout.{Shape, size, countAt, emptySheet}
+use Rattle.sheet_theory.specs.Layout.{Shape, size, countAt, emptySheet}
 use Rattle.sheet.specs.Fill.{puts, over}
 use Rattle.sheet.specs.Internal.{diagonalAt}
 use Rattle.sheet.proofs.FillLaws.{length-puts, puts-in, puts-out, over-in}
-use Rattle.sheet.proofs.LayoutLaws.{place-lt, place-only, redone-ext}
+use Rattle.sheet_theory.proofs.LayoutLaws.{place-lt, place-only, redone-ext}
 
 module _ (n : ℕ) (s w t : List ℕ) (h : Shape n s) (ew : w ≡ over s 0 (λ (k : ℕ). 0) (length s)) (et : t ≡ puts w (diagonalAt n) (λ (k : ℕ). 1) n) where
   cleared-long : length w ≡ length s

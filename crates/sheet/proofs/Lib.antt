@@ -1,12 +1,4 @@
-pub mod TableLaws
-pub mod ShapeLaws
-pub mod AnswerLaws
 pub mod FillLaws
-pub mod LayoutLaws
 pub mod EmptyLaws
 pub mod StrayLaws
 pub mod RowLaws
-pub mod ValidLaws
-pub mod Refusals
-pub mod Meaning
-pub mod Examples

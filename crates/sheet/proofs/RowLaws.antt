@@ -1,30 +1,26 @@
--- The laws of rows of counts: a row added to another or taken off it, and the rows of a mask added up; and of the set bits of all rows.
--- Assumes nothing.
-use mathlib.Core.Path.{_≡_, refl, ap, ap₂, _∙_}
+-- The laws of places and of rows of counts: a row added to another or taken off it, and the rows of a mask added up. Assumes nothing.
+use mathlib.Core.Path.{_≡_, refl, ap, _∙_}
 use mathlib.Core.List.{List}
-use Prim.Native.Nat.{ℕ, zero, suc, _+_, _*_, _%_, _^_, _≤_, _<_}
+use Prim.Native.Nat.{ℕ, _+_, _*_, _%_, _^_, _≤_, _<_}
 use native.Mathlib.Nat.{le-refl}
 use native.Mathlib.Decide.{ℕ-discrete}
-use native.Mathlib.Numerals.{add-one}
 use native.Mathlib.Omega.{arith}
 use lib.ListN.{length, getD, set, replicate, length-set, length-replicate, getD-replicate}
 use lib.Seq.{getD-set-same, getD-set-other}
 use Rattle.sums.specs.Sum.{sum}
-use Rattle.sums.proofs.SumLaws.{sum-cong}
-use Rattle.word.specs.Bit.{bit, bitCount, Lowest, LowestCleared}
+use Rattle.word.specs.Bit.{bit, Lowest, LowestCleared}
 use Rattle.word.specs.Wrap.{plus}
 use Rattle.word.proofs.BitLaws.{clear-below}
-use Rattle.word.proofs.CountLaws.{bitCount-le, Adding, adding-start, adding-more, adding-done}
-use Rattle.sheet.specs.Layout.{rowAt, countAt, setBits}
-use Rattle.sheet.specs.Internal.{RowBase, RowBy}
+use Rattle.word.proofs.CountLaws.{Adding, adding-start, adding-more, adding-done}
+use Rattle.sheet_theory.specs.Layout.{countAt}
+use Rattle.sheet.specs.Internal.{RowBase, Place, RowBy}
+
+pub place-count : (n : ℕ) (s : List ℕ) (i j p : ℕ) → Place n i j p → getD s p 0 ≡ countAt n s i j
+place-count n s i j p at = ap (λ x. getD s x 0) (at .is)
 
 -- the words from the base of row i on are the counts from i
 pub base-count : (n : ℕ) (s : List ℕ) (i base : ℕ) → RowBase n i base → (j : ℕ) → getD s (base + j) 0 ≡ countAt n s i j
 base-count n s i base at j = ap (λ x. getD s (x + j) 0) (at .is)
-
--- and from the column c on
-pub block-count : (n : ℕ) (s : List ℕ) (i base c : ℕ) → RowBase n i base → (j : ℕ) → getD s (base + c + j) 0 ≡ countAt n s i (c + j)
-block-count n s i base c at j = ap (λ x. getD s x 0) (omega (arith, at .is))
 
 -- ---- a row added to another or taken off it, word by word
 
@@ -85,26 +81,3 @@ module _ (n : ℕ) (s : List ℕ) (mask : ℕ) (column : ℕ → ℕ) (w m : ℕ
   pub summing-done : (t : List ℕ) (rest : ℕ) → Summing n s mask column w m rest t → rest ≡ 0
       → (j : ℕ) → j < w → getD t j 0 ≡ sum n (λ b. bit mask b * countAt n s b (column j)) % 2 ^ 64
   summing-done t rest was e j h = adding-done n mask (λ b. countAt n s b (column j)) rest (getD t j 0) (was .adding j h) e
-
--- ---- the set bits of all rows
-
-pub setBits-zero : (s : List ℕ) → 0 ≡ setBits 0 s
-unfolding setBits sum
-setBits-zero s = refl
-
-pub setBits-more : (s : List ℕ) (i x y : ℕ) → x ≡ setBits i s → y ≡ bitCount (rowAt s i) → x + y ≡ setBits (i + 1) s
-unfolding setBits sum
-setBits-more s i x y ex ey = rw (add-one i) (ap₂ (λ a b. a + b) ex ey)
-
-pub setBits-done : (s : List ℕ) (i n x : ℕ) → x ≡ setBits i s → i ≡ n → x ≡ setBits n s
-setBits-done s i n x ex e = rw e at ex
-
-pub setBits-le : (s : List ℕ) (i : ℕ) → setBits i s ≤ 64 * i
-unfolding setBits sum
-setBits-le s zero = omega arith
-setBits-le s (suc i) = omega (arith, setBits-le s i, bitCount-le (rowAt s i))
-
--- the set bits of the rows are told by the rows
-pub setBits-cong : (n : ℕ) (s t : List ℕ) → ((i : ℕ) → i < n → rowAt s i ≡ rowAt t i) → setBits n s ≡ setBits n t
-unfolding setBits
-setBits-cong n s t h = sum-cong n _ _ (λ i hi. ap bitCount (h i hi))

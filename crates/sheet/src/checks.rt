@@ -1,9 +1,12 @@
 // The checks that calls share.
 ghost use mathlib.Core.Path.{_≡_};
-ghost use Rattle.sheet.specs.Internal.{shapeNumber, verticesNumber};
-use crate::answer::Refusal;
+ghost use Rattle.answers.specs.Table.{Reflects};
+ghost use Rattle.sheet_theory.specs.Layout.{Shape};
+ghost use Rattle.sheet_theory.specs.Conditions.{StrayRow};
+ghost use Rattle.sheet_theory.specs.Internal.{shapeNumber, verticesNumber};
 use crate::layout;
 use crate::layout::Sheet;
+use answers::Refusal;
 
 // Internal: 1 if n is not 1 to 64, else 2 if a sheet of n vertices has not so many words, else 0.
 pub fn shape_number(n: usize, words: usize) -> u64
@@ -36,4 +39,19 @@ pub fn vertices_number(n: usize, words: usize, i: usize, j: usize) -> u64
         return Refusal::VERTEX;
     }
     0
+}
+
+// Internal: whether a row has a bit at n or above.
+pub fn has_stray_row(n: usize, sheet: &[u64]) -> bool
+    requires { ⌜ Shape n (now sheet) ⌝ }
+    ensures { λ r. ⌜ Reflects r (StrayRow n (now (sheet .entry))) ⌝ }
+{
+    let mut i = 0;
+    while i < n {
+        if !word::within(sheet[i], n) {
+            return true;
+        }
+        i += 1;
+    }
+    false
 }

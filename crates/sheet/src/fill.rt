@@ -2,7 +2,7 @@
 ghost use mathlib.Core.Path.{_≡_};
 ghost use Prim.Native.Nat.{ℕ};
 ghost use lib.ListN.{length};
-ghost use Rattle.sheet.specs.Layout.{Shape, emptySheet};
+ghost use Rattle.sheet_theory.specs.Layout.{Shape, emptySheet};
 ghost use Rattle.sheet.specs.Fill.{puts, over};
 ghost use Rattle.sheet.specs.Internal.{diagonalAt};
 use crate::layout;

@@ -1,7 +1,7 @@
 // Where what stands in a sheet, and the sheet's own type.
 ghost use mathlib.Core.Path.{_≡_};
 ghost use Prim.Native.Nat.{_≤_, _<_};
-ghost use Rattle.sheet.specs.Layout.{mostVertices, size, Shape, countAt, emptySheet};
+ghost use Rattle.sheet_theory.specs.Layout.{mostVertices, size, Shape, countAt, emptySheet};
 ghost use Rattle.sheet.specs.Internal.{Place, RowBase};
 use crate::fill;
 
@@ -17,8 +17,6 @@ impl Sheet {
     pub const WORDS: usize = 4160;
     // The most edges that a valid sheet has: 64 × 63 / 2. No call refuses by it.
     pub const EDGES: usize = 2016;
-    // Internal: the columns of a block of counts, which are worked at once: so many that their sums fit in registers.
-    pub const COLUMNS: usize = 16;
 
     // The empty sheet of 64 vertices.
     pub fn new() -> Sheet

@@ -1,16 +1,15 @@
 // Sheets of path counts: the adjacency rows of an acyclic graph and the number of paths between every two vertices, in the
 // words of a lent slice. The calls of this file answer every n, every length and all words.
 ghost use mathlib.Core.Path.{_≡_};
-ghost use Rattle.sheet.specs.Calls.{emptyAnswer, emptyAfter, pathCountAnswer};
+ghost use Rattle.sheet_theory.specs.Calls.{emptyAnswer, emptyAfter, pathCountAnswer};
 
-mod answer;
 pub mod checks;
 mod fill;
 pub mod layout;
 pub mod rows;
 
-pub use answer::Answer;
-pub use answer::Refusal;
+pub use answers::Answer;
+pub use answers::Refusal;
 pub use layout::Sheet;
 
 // The empty sheet of n vertices, whatever the words were. Refused by 1, 2. The value is 0.

@@ -1,10 +1,10 @@
-// Rows of counts added up and taken off, and the set bits of the rows.
+// Rows of counts added up, and the set bits of the rows.
 ghost use mathlib.Core.Path.{_≡_};
 ghost use Prim.Native.Nat.{_+_, _≤_, _<_, _^_};
 ghost use lib.ListN.{length};
-ghost use Rattle.word.specs.Wrap.{plus, minus};
-ghost use Rattle.sheet.specs.Layout.{Shape, setBits};
-ghost use Rattle.sheet.specs.Internal.{columns, RowBy, RowsSummed, BlockSummed};
+ghost use Rattle.word.specs.Wrap.{plus};
+ghost use Rattle.sheet_theory.specs.Layout.{Shape, setBits};
+ghost use Rattle.sheet.specs.Internal.{RowBy, RowsSummed};
 use crate::layout;
 use crate::layout::Sheet;
 
@@ -20,18 +20,6 @@ pub fn add_row(n: usize, words: &[u64], base: usize, t: &mut [u64])
     }
 }
 
-// Internal: the same words, taken off, modulo 2^64.
-pub fn take_row(n: usize, words: &[u64], base: usize, t: &mut [u64])
-    requires { ⌜ (n ≤ length (now t)) × (base + n ≤ length (now words)) ⌝ }
-    ensures { λ r. ⌜ RowBy minus n (now (words .entry)) base (now (t .entry)) (now (t .exit)) ⌝ }
-{
-    let mut j = 0;
-    while j < n {
-        t[j] = word::wrapping_sub(t[j], words[base + j]);
-        j += 1;
-    }
-}
-
 // Internal: for each j below n, the sum of the counts to j from the vertices of the mask, modulo 2^64.
 pub fn sum_rows(n: usize, sheet: &[u64], mask: u64) -> [u64; Sheet::VERTICES]
     requires { ⌜ (Shape n (now sheet)) × (mask < 2 ^ n) ⌝ }
@@ -43,22 +31,6 @@ pub fn sum_rows(n: usize, sheet: &[u64], mask: u64) -> [u64; Sheet::VERTICES]
         let b = word::lowest_bit(rest);
         let base = layout::row_base(n, b);
         add_row(n, sheet, base, &mut t);
-        rest = word::clear_lowest(rest);
-    }
-    t
-}
-
-// Internal: the same for the columns from c on alone.
-pub fn sum_block(n: usize, sheet: &[u64], mask: u64, c: usize) -> [u64; Sheet::COLUMNS]
-    requires { ⌜ (Shape n (now sheet)) × (mask < 2 ^ n) × (c + columns ≤ n) ⌝ }
-    ensures { λ r. ⌜ BlockSummed n (now (sheet .entry)) mask c r ⌝ }
-{
-    let mut t = [0u64; Sheet::COLUMNS];
-    let mut rest = mask;
-    while rest != 0 {
-        let b = word::lowest_bit(rest);
-        let base = layout::row_base(n, b);
-        add_row(Sheet::COLUMNS, sheet, base + c, &mut t);
         rest = word::clear_lowest(rest);
     }
     t

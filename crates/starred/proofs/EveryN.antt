@@ -9,12 +9,12 @@ use Rattle.graph.specs.Graph.{Exactly, IsPath}
 use Rattle.graph.proofs.Lists.{exactly-only}
 use Rattle.graph.proofs.Counting.{exactly-self}
 use Rattle.graph.proofs.Bound.{bound, paths-below}
-use Rattle.sheet.specs.declared.answer.Answer.{Answer}
-use Rattle.sheet.specs.Answers.{answer}
-use Rattle.sheet.specs.Conditions.{BadVertices}
-use Rattle.sheet.proofs.AnswerLaws.{answer-ext}
-use Rattle.sheet.proofs.Refusals.{empty-table, empty-refused, path-count-table, path-count-refused}
-use Rattle.recount.proofs.Refusals.{recount-table, recount-refused, validate-table, validate-refused}
+use Rattle.answers.specs.declared.Answer.{Answer}
+use Rattle.answers.specs.Answers.{answer}
+use Rattle.sheet_theory.specs.Conditions.{BadVertices}
+use Rattle.answers.proofs.AnswerLaws.{answer-ext}
+use Rattle.sheet_theory.proofs.Refusals.{empty-table, empty-refused, path-count-table, path-count-refused}
+use Rattle.recount_theory.proofs.Refusals.{recount-table, recount-refused, validate-table, validate-refused}
 use Rattle.edit_theory.specs.Edit.{Edit}
 use Rattle.edit_theory.proofs.Refusals.{edit-table, edit-refused}
 use Rattle.query_theory.proofs.Refusals.{reaches-without-table, reaches-without-refused, unrank-table, unrank-refused, rank-table, rank-refused}

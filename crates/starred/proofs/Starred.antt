@@ -15,11 +15,11 @@ use Rattle.graph.specs.Graph.{_isIn_, Exactly, IsPath}
 use Rattle.graph.specs.Uses.{Uses, oneEdge}
 use Rattle.graph.proofs.Lists.{when, each, exactly-only}
 use Rattle.graph.proofs.Counting.{walkList, exactly-self}
-use Rattle.sheet.specs.Table.{firstTrue}
-use Rattle.sheet.specs.Answers.{answer}
-use Rattle.sheet.specs.Layout.{edgeAt, emptySheet}
-use Rattle.sheet.proofs.AnswerLaws.{answer-ext}
-use Rattle.sheet.proofs.Meaning.{empty-valid, empty-edge}
+use Rattle.answers.specs.Table.{firstTrue}
+use Rattle.answers.specs.Answers.{answer}
+use Rattle.sheet_theory.specs.Layout.{edgeAt, emptySheet}
+use Rattle.answers.proofs.AnswerLaws.{answer-ext}
+use Rattle.sheet_theory.proofs.Meaning.{empty-valid, empty-edge}
 use Rattle.edit_theory.specs.Edit.{one, at, insertEdge, insertEdgesAt}
 use Rattle.edit_theory.specs.Outcome.{some, someEdge, editAnswer, editAfter}
 use Rattle.edit_theory.proofs.Refusals.{edit-table, edit-refused}

@@ -6,12 +6,12 @@ use mathlib.Core.List.{List}
 use Prim.Native.Nat.{ℕ, _-_, _^_, _≤_, _<_}
 use lib.ListN.{length}
 use Rattle.graph.specs.Graph.{Exactly, IsPath, Acyclic}
-use Rattle.sheet.specs.declared.answer.Answer.{Answer}
-use Rattle.sheet.specs.Answers.{answer}
-use Rattle.sheet.specs.Layout.{mostVertices}
-use Rattle.sheet.specs.Conditions.{BadVertices}
-use Rattle.sheet.specs.Calls.{emptyAnswer, emptyAfter, pathCountAnswer}
-use Rattle.recount.specs.Calls.{Recount, Validate}
+use Rattle.answers.specs.declared.Answer.{Answer}
+use Rattle.answers.specs.Answers.{answer}
+use Rattle.sheet_theory.specs.Layout.{mostVertices}
+use Rattle.sheet_theory.specs.Conditions.{BadVertices}
+use Rattle.sheet_theory.specs.Calls.{emptyAnswer, emptyAfter, pathCountAnswer}
+use Rattle.recount_theory.specs.Calls.{Recount, Validate}
 use Rattle.edit_theory.specs.Edit.{Edges, Edit}
 use Rattle.edit_theory.specs.Outcome.{editAnswer, editAfter}
 use Rattle.query_theory.specs.ReachesWithout.{reachesWithoutAnswer}

@@ -4,8 +4,8 @@ use mathlib.Core.Bool.{Bool, false, _||_}
 use mathlib.Core.List.{List, [], _∷_}
 use Prim.Native.Nat.{ℕ, _<_}
 use Rattle.graph.specs.Uses.{oneEdge}
-use Rattle.sheet.specs.Layout.{edgeAt}
-use Rattle.sheet.specs.Valid.{Valid}
+use Rattle.sheet_theory.specs.Layout.{edgeAt}
+use Rattle.sheet_theory.specs.Valid.{Valid}
 use Rattle.edit_theory.specs.Edit.{oneIf}
 
 -- whether the edge from i to j is in a list of edges, each given by its two ends

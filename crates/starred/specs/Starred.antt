@@ -4,8 +4,8 @@ use mathlib.Core.List.{List, [], _∷_}
 use Prim.Native.Nat.{ℕ, _^_}
 use lib.ListN.{length}
 use Rattle.text.specs.Text.{written}
-use Rattle.sheet.specs.Answers.{answer}
-use Rattle.sheet.specs.Calls.{pathCountAnswer}
+use Rattle.answers.specs.Answers.{answer}
+use Rattle.sheet_theory.specs.Calls.{pathCountAnswer}
 use Rattle.edit_theory.specs.Edit.{Edit, insertEdge, insertEdgesAt, deleteEdgesAt}
 use Rattle.edit_theory.specs.Outcome.{editAnswer, editAfter}
 use Rattle.query_theory.specs.ReachesWithout.{reachesWithoutAnswer}

@@ -1,7 +1,7 @@
 -- `paths::list_graph` is safe: the words of a sheet of n vertices are no more than those of 64. Assumes nothing.
 use native.Mathlib.Omega.{arith}
 use lib.ListN.{length-take}
-use Rattle.sheet.proofs.LayoutLaws.{square-le}
+use Rattle.sheet_theory.proofs.LayoutLaws.{square-le}
 use borrow.Author.Needs.{needs}
 use Rattle.paths.proofs.list_graph.Statement.{statement}
 use Rattle.paths.proofs.list_graph.Tie as tie

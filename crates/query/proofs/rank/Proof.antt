@@ -1,6 +1,6 @@
 -- `query::rank` meets its contract: each way out is a law of CallLaws. Assumes nothing.
 use borrow.Author.Needs.{needs}
-use Rattle.sheet.proofs.ShapeLaws.{shape-of}
+use Rattle.sheet_theory.proofs.ShapeLaws.{shape-of}
 use Rattle.query.proofs.PathLaws.{vertices-of, not-broken}
 use Rattle.query.proofs.CallLaws.{rank-shape, rank-no-vertex, rank-broken, rank-accepted}
 use Rattle.query.proofs.rank.Statement.{statement}

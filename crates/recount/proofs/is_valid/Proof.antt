@@ -2,7 +2,7 @@
 use native.Mathlib.Omega.{arith}
 use borrow.Author.Needs.{needs}
 use borrow.Author.Tests.{not-true, not-false}
-use Rattle.recount.proofs.StrayLaws.{rows-below}
+use Rattle.sheet.proofs.StrayLaws.{rows-below}
 use Rattle.recount.proofs.ValidateLaws.{valid-stray, valid-cycle, valid-holds}
 use Rattle.recount.proofs.is_valid.Statement.{statement}
 use Rattle.recount.proofs.is_valid.Tie as tie

@@ -1,8 +1,8 @@
 -- `recount::recount` meets its contract: each way out is a law of RecountLaws. Assumes nothing.
 use borrow.Author.Needs.{needs}
 use borrow.Author.Tests.{not-true, not-false}
-use Rattle.sheet.proofs.ShapeLaws.{shape-of}
-use Rattle.recount.proofs.StrayLaws.{rows-below}
+use Rattle.sheet_theory.proofs.ShapeLaws.{shape-of}
+use Rattle.sheet.proofs.StrayLaws.{rows-below}
 use Rattle.recount.proofs.RecountLaws.{recount-refused, recount-stray, recount-cycle, recount-accepted, recount-shape}
 use Rattle.recount.proofs.recount.Statement.{statement}
 use Rattle.recount.proofs.recount.Tie as tie

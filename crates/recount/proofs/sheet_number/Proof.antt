@@ -1,7 +1,7 @@
 -- `recount::sheet_number` meets its contract: each way out is a law of ValidateLaws. Assumes nothing.
 use borrow.Author.Needs.{needs}
 use borrow.Author.Tests.{not-true, not-false}
-use Rattle.sheet.proofs.ShapeLaws.{shape-of}
+use Rattle.sheet_theory.proofs.ShapeLaws.{shape-of}
 use Rattle.recount.proofs.ValidateLaws.{sheet-shape, sheet-not-valid, sheet-valid}
 use Rattle.recount.proofs.sheet_number.Statement.{statement}
 use Rattle.recount.proofs.sheet_number.Tie as tie

@@ -1,6 +1,6 @@
 -- `recount::validate` meets its contract: each way out is a law of ValidateLaws. Assumes nothing.
 use borrow.Author.Needs.{needs}
-use Rattle.sheet.proofs.ShapeLaws.{shape-of}
+use Rattle.sheet_theory.proofs.ShapeLaws.{shape-of}
 use Rattle.recount.proofs.ValidateLaws.{validate-refused, validate-valid, validate-not}
 use Rattle.recount.proofs.validate.Statement.{statement}
 use Rattle.recount.proofs.validate.Tie as tie

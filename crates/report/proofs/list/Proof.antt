@@ -1,6 +1,6 @@
 -- `report::list` meets its contract: both parts are laws of ListingLaws. Assumes nothing.
 use borrow.Author.Needs.{needs}
-use Rattle.report.proofs.ListingLaws.{list-count, list-bytes}
+use Rattle.report_theory.proofs.ListingLaws.{list-count, list-bytes}
 use Rattle.report.proofs.list.Statement.{statement}
 use Rattle.report.proofs.list.Tie as tie
 

@@ -2,7 +2,7 @@
 use Prim.Native.Nat.{ℕ, _<_}
 use native.Mathlib.Omega.{arith}
 use borrow.Author.Tests.{eqb-true, eqb-false}
-use Rattle.sheet.specs.Layout.{countAt}
+use Rattle.sheet_theory.specs.Layout.{countAt}
 use Rattle.word.proofs.CountLaws.{lowest-cleared-lt}
 use Rattle.edit.proofs.SearchLaws.{Searching, searching-start, searching-below, searching-found, searching-more, searching-done}
 use Rattle.edit.proofs.CheckLaws.{count-some, count-none}

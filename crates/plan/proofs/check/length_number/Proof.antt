@@ -1,5 +1,5 @@
--- `plan::check::length_number` meets its contract: each way out is a law of CallLaws. Assumes nothing.
-use Rattle.plan.proofs.CallLaws.{length-broken, length-long, length-good}
+-- `plan::check::length_number` meets its contract: each way out is a law of LengthLaws. Assumes nothing.
+use Rattle.plan_theory.proofs.LengthLaws.{length-broken, length-long, length-good}
 use Rattle.plan.proofs.check.length_number.Statement.{statement}
 use Rattle.plan.proofs.check.length_number.Tie as tie
 

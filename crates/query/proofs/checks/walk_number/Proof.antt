@@ -1,6 +1,6 @@
 -- `query::checks::walk_number` meets its contract: each way out is a law of CheckLaws. Assumes nothing.
 use borrow.Author.Needs.{needs}
-use Rattle.sheet.proofs.ShapeLaws.{vertices-ready}
+use Rattle.sheet_theory.proofs.ShapeLaws.{vertices-ready}
 use Rattle.query.proofs.CheckLaws.{walk-ends, walk-buffer, walk-beyond, walk-good}
 use Rattle.query.proofs.checks.walk_number.Statement.{statement}
 use Rattle.query.proofs.checks.walk_number.Tie as tie

@@ -2,7 +2,7 @@
 use native.Mathlib.Omega.{arith}
 use borrow.Author.Needs.{needs}
 use borrow.Author.Tests.{not-true, not-false}
-use Rattle.sheet.proofs.ShapeLaws.{shape-of}
+use Rattle.sheet_theory.proofs.ShapeLaws.{shape-of}
 use Rattle.query.proofs.CheckLaws.{without-shape, without-vertex, without-absent, without-there}
 use Rattle.query.proofs.checks.without_number.Statement.{statement}
 use Rattle.query.proofs.checks.without_number.Tie as tie

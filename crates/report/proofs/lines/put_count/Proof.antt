@@ -3,8 +3,8 @@ use mathlib.Core.List.{[], _∷_}
 use native.Mathlib.Omega.{arith}
 use borrow.Author.Needs.{needs}
 use lib.ListN.{length-append}
-use Rattle.report.specs.Lines.{decimal}
-use Rattle.report.proofs.LineLaws.{count-put}
+use Rattle.report_theory.specs.Lines.{decimal}
+use Rattle.report_theory.proofs.LineLaws.{count-put}
 use Rattle.report.proofs.lines.put_count.Statement.{statement}
 use Rattle.report.proofs.lines.put_count.Tie as tie
 

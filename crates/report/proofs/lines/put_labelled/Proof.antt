@@ -2,8 +2,8 @@
 use native.Mathlib.Omega.{arith}
 use borrow.Author.Needs.{needs}
 use lib.ListN.{length-append}
-use Rattle.report.specs.Lines.{decimal}
-use Rattle.report.proofs.LineLaws.{labelled-put}
+use Rattle.report_theory.specs.Lines.{decimal}
+use Rattle.report_theory.proofs.LineLaws.{labelled-put}
 use Rattle.report.proofs.lines.put_labelled.Statement.{statement}
 use Rattle.report.proofs.lines.put_labelled.Tie as tie
 

@@ -2,7 +2,7 @@
 use mathlib.Core.Logic.{⊎-elim}
 use borrow.Author.Tests.{eqb-true, eqb-false}
 use borrow.Author.Needs.{needs}
-use Rattle.report.proofs.LineLaws.{pair-same, pair-none, pair-room, pair-put}
+use Rattle.report_theory.proofs.LineLaws.{pair-same, pair-none, pair-room, pair-put}
 use Rattle.report.proofs.lines.put_pair.Statement.{statement}
 use Rattle.report.proofs.lines.put_pair.Tie as tie
 

@@ -3,8 +3,8 @@ use mathlib.Core.List.{[], _∷_, _++_}
 use native.Mathlib.Omega.{arith}
 use borrow.Author.Needs.{needs}
 use lib.ListN.{length-append}
-use Rattle.report.specs.Lines.{decimal, refusedLabel}
-use Rattle.report.proofs.LineLaws.{refused-put}
+use Rattle.report_theory.specs.Lines.{decimal, refusedLabel}
+use Rattle.report_theory.proofs.LineLaws.{refused-put}
 use Rattle.report.proofs.lines.put_refused.Statement.{statement}
 use Rattle.report.proofs.lines.put_refused.Tie as tie
 

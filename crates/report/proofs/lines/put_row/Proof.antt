@@ -2,8 +2,8 @@
 use Prim.Native.Nat.{_-_}
 use native.Mathlib.Omega.{arith}
 use Rattle.text.proofs.TextLaws.{Pieces, pieces-start, pieces-room, pieces-more, pieces-done}
-use Rattle.sheet.specs.Layout.{mostVertices}
-use Rattle.report.specs.Lines.{pairLine, rowLines}
+use Rattle.sheet_theory.specs.Layout.{mostVertices}
+use Rattle.report_theory.specs.Lines.{pairLine, rowLines}
 use Rattle.report.proofs.lines.put_row.Statement.{statement}
 use Rattle.report.proofs.lines.put_row.Tie as tie
 

@@ -1,7 +1,7 @@
 -- `report::lines::write` meets its contract: each way out is a law of LineLaws. Assumes nothing.
 use native.Mathlib.Omega.{arith}
 use borrow.Author.Needs.{needs}
-use Rattle.report.proofs.LineLaws.{pipes-le, refused-le, rows-le, printed-refused, printed-accepted}
+use Rattle.report_theory.proofs.LineLaws.{pipes-le, refused-le, rows-le, printed-refused, printed-accepted}
 use Rattle.report.proofs.lines.write.Statement.{statement}
 use Rattle.report.proofs.lines.write.Tie as tie
 

@@ -1,7 +1,7 @@
 -- `report::number::put` meets its contract. Assumes nothing.
 use native.Mathlib.Omega.{arith}
 use borrow.Author.Needs.{needs}
-use Rattle.report.proofs.DecimalLaws.{decimal-room, decimal-put}
+use Rattle.report_theory.proofs.DecimalLaws.{decimal-room, decimal-put}
 use Rattle.report.proofs.number.put.Statement.{statement}
 use Rattle.report.proofs.number.put.Tie as tie
 

@@ -1,7 +1,7 @@
 -- `sheet::checks::shape_number` meets its contract: each way out is a law of ShapeLaws. Assumes nothing.
 use native.Mathlib.Omega.{arith}
 use borrow.Author.Needs.{needs}
-use Rattle.sheet.proofs.ShapeLaws.{shape-none, shape-many, shape-long, shape-good}
+use Rattle.sheet_theory.proofs.ShapeLaws.{shape-none, shape-many, shape-long, shape-good}
 use Rattle.sheet.proofs.checks.shape_number.Statement.{statement}
 use Rattle.sheet.proofs.checks.shape_number.Tie as tie
 

@@ -1,6 +1,6 @@
 -- `sheet::checks::vertices_number` meets its contract: each way out is a law of ShapeLaws. Assumes nothing.
 use borrow.Author.Needs.{needs}
-use Rattle.sheet.proofs.ShapeLaws.{vertices-stops, vertices-from, vertices-to, vertices-good}
+use Rattle.sheet_theory.proofs.ShapeLaws.{vertices-stops, vertices-from, vertices-to, vertices-good}
 use Rattle.sheet.proofs.checks.vertices_number.Statement.{statement}
 use Rattle.sheet.proofs.checks.vertices_number.Tie as tie
 

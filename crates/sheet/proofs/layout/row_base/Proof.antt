@@ -1,7 +1,7 @@
 -- `sheet::layout::row_base` meets its contract. Assumes nothing.
 use mathlib.Core.Path.{refl}
 use native.Mathlib.Omega.{arith}
-use Rattle.sheet.proofs.LayoutLaws.{square-le, row-within}
+use Rattle.sheet_theory.proofs.LayoutLaws.{square-le, row-within}
 use Rattle.sheet.proofs.layout.row_base.Statement.{statement}
 use Rattle.sheet.proofs.layout.row_base.Tie as tie
 

@@ -1,7 +1,7 @@
 -- `sheet::layout::word_count` meets its contract. Assumes nothing.
 use mathlib.Core.Path.{refl}
 use native.Mathlib.Omega.{arith}
-use Rattle.sheet.proofs.LayoutLaws.{square-le}
+use Rattle.sheet_theory.proofs.LayoutLaws.{square-le}
 use Rattle.sheet.proofs.layout.word_count.Statement.{statement}
 use Rattle.sheet.proofs.layout.word_count.Tie as tie
 

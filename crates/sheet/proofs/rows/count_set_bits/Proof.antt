@@ -5,8 +5,8 @@ use native.Mathlib.Omega.{arith}
 use borrow.Author.Needs.{needs}
 use lib.ListN.{getD}
 use Rattle.word.proofs.CountLaws.{bitCount-le}
-use Rattle.sheet.specs.Layout.{setBits}
-use Rattle.sheet.proofs.RowLaws.{setBits-zero, setBits-more, setBits-done, setBits-le}
+use Rattle.sheet_theory.specs.Layout.{setBits}
+use Rattle.sheet_theory.proofs.SetBitsLaws.{setBits-zero, setBits-more, setBits-done, setBits-le}
 use Rattle.sheet.proofs.rows.count_set_bits.Statement.{statement}
 use Rattle.sheet.proofs.rows.count_set_bits.Tie as tie
 

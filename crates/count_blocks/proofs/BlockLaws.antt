@@ -1,0 +1,306 @@
+-- The laws of counts by blocks of columns: the block that the recurrence gives, what may be left out of its sums, and blocks written and
+-- compared. Assumes nothing.
+use mathlib.Core.Path.{_≡_, refl, sym, ap, ap₂, subst, _∙_}
+use mathlib.Core.Logic.{_⊎_, inl, inr}
+use mathlib.Core.Bool.{Bool, true, false, not}
+use mathlib.Core.List.{List}
+use Prim.Native.Nat.{ℕ, _+_, _-_, _*_, _%_, _^_, _≤_, _<_}
+use native.Mathlib.Nat.{lt-of-le-of-lt, mod-lt, mod-eq-of-lt, zero-mul, mul-zero}
+use native.Mathlib.Decide.{ℕ-discrete, decLt}
+use native.Mathlib.Omega.{arith}
+use borrow.Author.Tests.{not-true}
+use lib.Bits.{bitAnd, and-le-l}
+use lib.ListN.{length, getD, set, replicate, length-set, length-replicate, getD-replicate}
+use lib.Pow.{pow-pos}
+use lib.Seq.{getD-set-same, getD-set-other}
+use Rattle.sums.specs.Sum.{sum, delta}
+use Rattle.sums.specs.Modulo.{Congruent}
+use Rattle.sums.proofs.ModuloLaws.{congruent-add, congruent-cancel}
+use Rattle.sums.proofs.SumLaws.{delta-refl, delta-diff, sum-cong}
+use Rattle.word.specs.Bit.{bit, withBit, Lowest, LowestCleared}
+use Rattle.word.specs.Wrap.{plus, minus}
+use Rattle.word.proofs.BitLaws.{bit-cases, bit-set-same, bit-set-other, clear-below}
+use Rattle.word.proofs.MaskLaws.{bit-and}
+use Rattle.word.proofs.WrapLaws.{minus-lt, minus-add, minus-congruent}
+use Rattle.word.proofs.CountLaws.{sum-no-bits, Taking, taking-start, taking-more, taking-done}
+use Rattle.answers.specs.Table.{Reflects}
+use Rattle.sheet_theory.specs.Layout.{Shape, size, rowAt, countAt, edgeAt}
+use Rattle.sheet.specs.Fill.{over}
+use Rattle.sheet.specs.Internal.{RowBase, RowBy}
+use Rattle.sheet_theory.specs.Internal.{successorsSum, RowHolds}
+use Rattle.answers.proofs.TableLaws.{reflects-false, reflects-true, reflects-none, reflects-iff}
+use Rattle.sheet.proofs.FillLaws.{length-puts, over-in, over-out}
+use Rattle.sheet_theory.proofs.LayoutLaws.{place-apart}
+use Rattle.count_rows.specs.Internal.{SameRow, RowFilled}
+use Rattle.order.specs.Internal.{vertexAt, Ordered}
+use Rattle.count_blocks.specs.Internal.{UnitWords, OwnBy, BlockSummed, RowsTaken, countByMask, BlockCounted, PartHolds, PartFilled, BlockHolds, Led, BlockAt}
+use Rattle.count_rows.proofs.FilledLaws.{Filled, filled-more, same-ordered}
+
+-- the words from the column c of row i on are the counts from i to these columns
+pub block-count : (n : ℕ) (s : List ℕ) (i base c : ℕ) → RowBase n i base → (j : ℕ) → getD s (base + c + j) 0 ≡ countAt n s i (c + j)
+block-count n s i base c at j = ap (λ x. getD s x 0) (omega (arith, at .is))
+
+-- ---- the path from a vertex to itself
+
+pub unit-made : UnitWords (set (replicate 32 0) 16 1)
+unit-made = record {
+  long = length-set {A = ℕ} (replicate 32 0) 16 1 ∙ length-replicate {A = ℕ} 32 0;
+  one = λ k h.
+      elim (ℕ-discrete k 16) [
+        | yes e ↦ rw e (getD-set-same (replicate 32 0) 16 1 0 (omega (arith, length-replicate {A = ℕ} 32 0)) ∙ sym (delta-refl 16))
+        | no d ↦ getD-set-other (replicate 32 0) 16 k 1 0 d ∙ getD-replicate {A = ℕ} 32 k 0 0 h ∙ sym (delta-diff k 16 d)
+      ];
+}
+
+module _ (op : ℕ → ℕ → ℕ) (i c : ℕ) (t : List ℕ) (long : length t ≡ 16) where
+  pub own-out : ((x : ℕ) → x < 2 ^ 64 → x ≡ op x 0) → (i < c) ⊎ (c + 16 ≤ i) → OwnBy op i c t t
+  own-out same out = record {
+    long = long;
+    each = λ j h small. rw (delta-diff i (c + j) (λ e. elim out [ inl q ↦ omega arith | inr q ↦ omega arith ])) (same (getD t j 0) small);
+  }
+
+  pub own-in : (u r : List ℕ) → UnitWords u → c ≤ i → i < c + 16 → RowBy op 16 u (16 + c - i) t r → OwnBy op i c t r
+  own-in u r unit low high a = record {
+    long = a .long ∙ long;
+    each = λ j h small. a .each j h (omega arith) ∙ ap (op (getD t j 0)) (unit .one (16 + c - i + j) (omega arith) ∙ place j);
+  }
+    where
+      place : (j : ℕ) → delta (16 + c - i + j) 16 ≡ delta i (c + j)
+      place j =
+          elim (ℕ-discrete i (c + j)) [
+            | yes e ↦ let q : 16 + c - i + j ≡ 16 = omega arith in rw q (delta-refl 16 ∙ sym (rw e (delta-refl (c + j))))
+            | no d ↦ delta-diff (16 + c - i + j) 16 (λ q. d (omega arith)) ∙ sym (delta-diff i (c + j) d)
+          ]
+
+pub plus-zero : (x : ℕ) → x < 2 ^ 64 → x ≡ plus x 0
+plus-zero x h = omega arith
+
+pub minus-zero : (x : ℕ) → x < 2 ^ 64 → x ≡ minus x 0
+minus-zero x h = minus-congruent x x 0 h (ap (λ y. y % 2 ^ 64) (omega arith))
+
+-- ---- rows taken off a block, by the lowest bit of what is left of the mask
+
+-- t has 16 words, and each is that of a with the counts to its column taken off from the vertices of the mask that are not in rest
+pub record BlockTaking (n : ℕ) (s : List ℕ) (mask c : ℕ) (a : List ℕ) (rest : ℕ) (t : List ℕ) : Type 0 where
+  pub below : rest < 2 ^ n
+  pub long : length t ≡ length a
+  pub taking : (j : ℕ) → j < 16 → getD a j 0 < 2 ^ 64 → Taking n mask rest (λ b. countAt n s b (c + j)) (getD a j 0) (getD t j 0)
+
+module _ (n : ℕ) (s : List ℕ) (mask c : ℕ) (a : List ℕ) where
+  pub taken-start : mask < 2 ^ n → BlockTaking n s mask c a mask a
+  taken-start h = record { below = h; long = refl; taking = λ j l q. taking-start n mask (λ b. countAt n s b (c + j)) (getD a j 0) h q }
+
+  pub taken-more : (t u : List ℕ) (rest b base r : ℕ) → length a ≡ 16 → BlockTaking n s mask c a rest t → Lowest rest b → RowBase n b base
+      → RowBy minus 16 s (base + c) t u → LowestCleared rest r → BlockTaking n s mask c a r u
+  taken-more t u rest b base r h was l at row er = record {
+    below = rw (er b l) (clear-below n rest b (was .below));
+    long = row .long ∙ was .long;
+    taking = λ j q small.
+        taking-more n mask (λ b. countAt n s b (c + j)) (getD a j 0) rest (getD t j 0) b (getD u j 0) r (was .taking j q small) l
+        (row .each j q (omega (arith, was .long)) ∙ ap (minus (getD t j 0)) (block-count n s b base c at j)) er;
+  }
+
+  pub taken-done : (t : List ℕ) (rest : ℕ) → BlockTaking n s mask c a rest t → rest ≡ 0 → RowsTaken n s mask c a t
+  taken-done t rest was e = record {
+    long = was .long;
+    each = λ j q small.
+        minus-congruent (getD t j 0) (getD a j 0) _ (was .taking j q small .small)
+        (taking-done n mask (λ b. countAt n s b (c + j)) (getD a j 0) rest (getD t j 0) (was .taking j q small) e);
+  }
+
+-- ---- the block that the recurrence gives, and its columns
+
+module _ (n : ℕ) (s : List ℕ) (i mask c : ℕ) where
+  pub block-counted : (t u : List ℕ) → BlockSummed n s mask c t → OwnBy plus i c t u → BlockCounted n s i mask c u
+  block-counted t u summed own = record {
+    long = own .long;
+    counts = λ j h. omega (arith, summed .sums j h, own .each j h (rw (summed .sums j h) (mod-lt _ (pow-pos 64))));
+  }
+
+  -- what holds of each column by its place in the block holds of each column
+  by-place : (P : ℕ → Type 0) → ((j : ℕ) → j < 16 → P (c + j)) → (j : ℕ) → c ≤ j → j < c + 16 → P j
+  by-place P h j low high = let e : c + (j - c) ≡ j = omega arith in subst P e (h (j - c) (omega arith))
+
+  module _ (t : List ℕ) (base : ℕ) (at : RowBase n i base) (counted : BlockCounted n s i mask c t) where
+    pub part-filled : (u : List ℕ) → length s ≡ size n → c + 16 ≤ n → u ≡ over s (base + c) (λ (j : ℕ). getD t j 0) 16 → PartFilled n s i mask c u
+    part-filled u long within e =
+        rw e
+        record {
+          long = length-puts s (λ j. base + c + j) f 16;
+          filled = by-place (λ j. countAt n w i j ≡ countByMask n s i mask j)
+              (λ j h. sym (block-count n w i base c at j) ∙ over-in s (base + c) f 16 j (omega (arith, at .within)) h ∙ counted .counts j h);
+          kept = λ k h. over-out s (base + c) f 16 k (elim h [ inl q ↦ inl (omega (arith, at .is)) | inr q ↦ inr (omega (arith, at .is)) ]);
+        }
+      where
+        f : ℕ → ℕ
+        f j = getD t j 0
+
+        w : List ℕ
+        w = over s (base + c) f 16
+
+  -- nothing is left of a count exactly if it is what is taken off
+  left-none : (a d S : ℕ) → a < 2 ^ 64 → minus (minus (plus 0 a) d) S ≡ 0 → a ≡ (d + S) % 2 ^ 64
+  left-none a d S h e =
+      let m = minus (plus 0 a) d in
+      let p : Congruent (2 ^ 64) (0 + S) m = ap (λ x. (x + S) % 2 ^ 64) (sym e) ∙ minus-add m S in
+      let q : Congruent (2 ^ 64) (m + d) (plus 0 a) = minus-add (plus 0 a) d in
+      let z : plus 0 a ≡ a = omega arith in
+      sym (ap (λ x. x % 2 ^ 64) (omega arith) ∙ congruent-add (2 ^ 64) (0 + S) d m d p refl ∙ q ∙ ap (λ x. x % 2 ^ 64) z ∙ mod-eq-of-lt h)
+
+  none-left : (a d S : ℕ) → a ≡ (d + S) % 2 ^ 64 → minus (minus (plus 0 a) d) S ≡ 0
+  none-left a d S e =
+      let m = minus (plus 0 a) d in
+      let q : Congruent (2 ^ 64) (m + d) (plus 0 a) = minus-add (plus 0 a) d in
+      sym (minus-congruent 0 m S (omega arith) (congruent-cancel (2 ^ 64) (0 + S) m d (omega (arith, q))))
+
+  module _ (base : ℕ) (at : RowBase n i base) (t u w : List ℕ) (first : RowBy plus 16 s (base + c) (replicate 16 0) t) (own : OwnBy minus i c t u)
+      (taken : RowsTaken n s mask c u w) where
+    -- what is left at place j
+    left : (j : ℕ) → j < 16 → getD w j 0 ≡ minus (minus (plus 0 (countAt n s i (c + j))) (delta i (c + j))) (sum n (λ b. bit mask b * countAt n s b (c + j)))
+    left j h =
+        let x : getD t j 0 ≡ plus 0 (countAt n s i (c + j))
+        = first .each j h (rw (length-replicate {A = ℕ} 16 0) h)
+        ∙ ap₂ plus (getD-replicate {A = ℕ} 16 j 0 0 h) (block-count n s i base c at j) in
+        let y : getD u j 0 ≡ minus (plus 0 (countAt n s i (c + j))) (delta i (c + j))
+        = own .each j h (rw x (mod-lt _ (pow-pos 64))) ∙ ap (λ (z : ℕ). minus z (delta i (c + j))) x in
+        taken .each j h (rw y (minus-lt _ _)) ∙ ap (λ (z : ℕ). minus z (sum n (λ b. bit mask b * countAt n s b (c + j)))) y
+
+    pub part-same : (r : Bool) → ((k : ℕ) → getD s k 0 < 2 ^ 64) → Reflects r (SameRow 16 w 0 (replicate 16 0)) → Reflects r (PartHolds n s i mask c)
+    part-same r small same = record {
+      holds = λ e. by-place (λ j. countAt n s i j ≡ countByMask n s i mask j)
+          (λ j h. left-none _ _ _ (small _) (sym (left j h) ∙ zero-at j ∙ same .holds e j h ∙ getD-replicate {A = ℕ} 16 j 0 0 h));
+      shows = λ h. same .shows
+          (λ j l. sym (zero-at j) ∙ left j l ∙ none-left _ _ _ (h (c + j) (omega arith) (omega arith)) ∙ sym (getD-replicate {A = ℕ} 16 j 0 0 l));
+    }
+      where
+        zero-at : (j : ℕ) → getD w j 0 ≡ getD w (0 + j) 0
+        zero-at j = ap (λ (k : ℕ). getD w k 0) (omega arith)
+
+-- ---- the vertices that lead to a column of the block
+
+pub led-set : (leading i mask c r : ℕ) → r ≡ withBit leading i → Led leading i mask c r
+led-set leading i mask c r e =
+    rw e
+    record {
+      other = λ k d. bit-set-other leading i k d;
+      out = λ z. absurd (omega (arith, z, bit-set-same leading i));
+    }
+
+pub led-same : (leading i mask c : ℕ) → mask ≡ 0 → (i < c) ⊎ (c + 16 ≤ i) → Led leading i mask c leading
+led-same leading i mask c z out = record { other = λ k d. refl; out = λ e. (z, out) }
+
+-- the counts to the columns are 0 from those of the first k vertices that are not among the leading
+abbrev pub Unled : ℕ → List ℕ → (ℕ → ℕ) → ℕ → ℕ → ℕ → Type 0
+Unled n t v c k leading = (m : ℕ) → m < k → bit leading (v m) ≡ 0 → (j : ℕ) → c ≤ j → j < c + 16 → countAt n t (v m) j ≡ 0
+
+-- a vertex that leads nowhere by the mask and is not j
+none-by : (n : ℕ) (s : List ℕ) (i mask j : ℕ) → mask ≡ 0 → (i ≡ j → ⊥) → countByMask n s i mask j ≡ 0
+none-by n s i mask j z d = rw z (omega (arith, delta-diff i j d, sum-no-bits n (λ b. countAt n s b j)))
+
+pub unled-more : (n : ℕ) (t u : List ℕ) (v : ℕ → ℕ) (c k leading mask r : ℕ) → Unled n t v c k leading → Led leading (v k) mask c r
+    → ((j : ℕ) → c ≤ j → j < c + 16 → countAt n u (v k) j ≡ countByMask n t (v k) mask j)
+    → ((i j : ℕ) → (i ≡ v k → ⊥) → c ≤ j → j < c + 16 → countAt n u i j ≡ countAt n t i j) → Unled n u v c (k + 1) r
+unled-more n t u v c k leading mask r was led here other m h z j low high =
+    elim (ℕ-discrete (v m) (v k)) [
+      | yes e ↦
+          let o = led .out (rw e at z) in
+          rw e (here j low high ∙ none-by n t (v k) mask j (o .0) (λ q. elim (o .1) [ inl p ↦ omega arith | inr p ↦ omega arith ]))
+      | no d ↦ elim (ℕ-discrete m k) [
+        | yes e ↦ absurd (d (ap v e))
+        | no q ↦ other (v m) j d low high ∙ was m (omega (arith, q)) (sym (led .other (v m) d) ∙ z) j low high
+      ]
+    ]
+
+pub leading-below : (n row leading : ℕ) → row < 2 ^ n → bitAnd row leading < 2 ^ n
+leading-below n row leading h = lt-of-le-of-lt (and-le-l row leading) h
+
+-- a successor that is not among the leading may be left out of the sum
+pub led-sum : (n : ℕ) (t l : List ℕ) (c k leading : ℕ) → Ordered n t l → k < n → Unled n t (vertexAt l) c k leading
+    → (j : ℕ) → c ≤ j → j < c + 16 → countByMask n t (vertexAt l k) (bitAnd (rowAt t (vertexAt l k)) leading) j ≡ successorsSum n t (vertexAt l k) j
+unfolding successorsSum
+led-sum n t l c k leading h hk un j low high = ap (λ (x : ℕ). (delta i j + x) % 2 ^ 64) (sum-cong n _ _ term)
+  where
+    i : ℕ
+    i = vertexAt l k
+
+    term : (b : ℕ) → b < n → bit (bitAnd (rowAt t i) leading) b * countAt n t b j ≡ edgeAt t i b * countAt n t b j
+    term b hb =
+        elim (bit-cases (rowAt t i) b) [
+          | inl e ↦ rw (bit-and (rowAt t i) leading b, e, zero-mul) refl
+          | inr e ↦ elim (bit-cases leading b) [
+            | inl z ↦
+                let o = h .order .earlier k hk b hb (omega (arith, e)) in
+                let none : countAt n t b j ≡ 0 = rw (o .2) at (un (o .0) (o .1) (rw (o .2) z) j low high) in
+                rw (none, mul-zero, mul-zero) refl
+            | inr z ↦ ap (λ (x : ℕ). x * countAt n t b j) (rw (bit-and (rowAt t i) leading b, e, z) refl)
+          ]
+        ]
+
+-- ---- the counts from one vertex more, written
+
+module _ (n : ℕ) (s l : List ℕ) (h : Ordered n s l) (shape : Shape n s) (c : ℕ) (within : c + 16 ≤ n) where
+  pub filling-more : (t u : List ℕ) (k leading mask r : ℕ) → k < n → Filled n s (vertexAt l) c 16 k t → Unled n t (vertexAt l) c k leading
+      → mask ≡ bitAnd (rowAt t (vertexAt l k)) leading → PartFilled n t (vertexAt l k) mask c u → Led leading (vertexAt l k) mask c r
+      → Filled n s (vertexAt l) c 16 (k + 1) u × Unled n u (vertexAt l) c (k + 1) r
+  filling-more t u k leading mask r hk f un em p led =
+      (filled-more n s l h shape c 16 within t u k hk f row, unled-more n t u (vertexAt l) c k leading mask r un led (p .filled) other)
+    where
+      i : ℕ
+      i = vertexAt l k
+
+      row : RowFilled n t i c 16 u
+      row = record {
+        long = p .long;
+        filled = λ j low high.
+            p .filled j low high
+            ∙ ap (λ (x : ℕ). countByMask n t i x j) em
+            ∙ led-sum n t l c k leading (same-ordered n s t (f .long) (f .rows) l h) hk un j low high;
+        kept = p .kept;
+      }
+
+      other : (a j : ℕ) → (a ≡ i → ⊥) → c ≤ j → j < c + 16 → countAt n u a j ≡ countAt n t a j
+      other a j d low high =
+          p .kept _ (elim (place-apart n a i j d (omega (arith, within))) [ inl q ↦ inl (omega arith) | inr q ↦ inr (omega (arith, within)) ])
+
+-- ---- the counts of a block compared
+
+-- the counts from vertex m of the order l to the columns satisfy the recurrence
+abbrev pub VertexHolds : ℕ → List ℕ → List ℕ → ℕ → ℕ → Type 0
+VertexHolds n s l c m = (j : ℕ) → c ≤ j → j < c + 16 → countAt n s (vertexAt l m) j ≡ successorsSum n s (vertexAt l m) j
+
+module _ (n : ℕ) (s l : List ℕ) (h : Ordered n s l) (c : ℕ) where
+  pub vertex-holds : (k leading mask : ℕ) (r : Bool) → k < n → Unled n s (vertexAt l) c k leading → mask ≡ bitAnd (rowAt s (vertexAt l k)) leading
+      → Reflects r (PartHolds n s (vertexAt l k) mask c) → Reflects r (VertexHolds n s l c k)
+  vertex-holds k leading mask r hk un em part =
+      reflects-iff (λ f j low high. f j low high ∙ whole j low high) (λ f j low high. f j low high ∙ sym (whole j low high)) part
+    where
+      whole : (j : ℕ) → c ≤ j → j < c + 16 → countByMask n s (vertexAt l k) mask j ≡ successorsSum n s (vertexAt l k) j
+      whole j low high = ap (λ (x : ℕ). countByMask n s (vertexAt l k) x j) em ∙ led-sum n s l c k leading h hk un j low high
+
+  pub compared-more : (k leading mask r : ℕ) → Unled n s (vertexAt l) c k leading → Led leading (vertexAt l k) mask c r
+      → PartHolds n s (vertexAt l k) mask c → Unled n s (vertexAt l) c (k + 1) r
+  compared-more k leading mask r un led part = unled-more n s s (vertexAt l) c k leading mask r un led part (λ a j d low high. refl)
+
+  pub block-of : (r : Bool) → Reflects r ((m : ℕ) → m < n → VertexHolds n s l c m) → Reflects r (BlockHolds n s c)
+  block-of r all =
+      reflects-iff (λ f i hi j low high. let o = h .all i hi in rw (← (o .2)) (f (o .0) (o .1) j low high)) (λ f m q. f (vertexAt l m) (h .order .vertex m q)) all
+
+-- ---- block after block
+
+-- the counts to the columns below c satisfy the recurrence
+abbrev pub Held : ℕ → List ℕ → ℕ → Type 0
+Held n s c = (i j : ℕ) → i < n → j < n → j < c → countAt n s i j ≡ successorsSum n s i j
+
+module _ (n : ℕ) (s : List ℕ) (c a : ℕ) (at : BlockAt n c a) where
+  pub held-more : Held n s c → BlockHolds n s a → Held n s (c + 16)
+  held-more was block i j hi hj q =
+      elim (decLt j c) [
+        | yes p ↦ was i j hi hj p
+        | no p ↦ block i hi j (omega (arith, at .low)) (at .holds j hj q)
+      ]
+
+  pub held-fails : (t : Bool) → Reflects t (BlockHolds n s a) → not t ≡ true → Reflects false ((i : ℕ) → i < n → RowHolds n s i)
+  held-fails t r e = reflects-none (λ all. reflects-false r .0 (not-true t e) (λ i hi j low high. all i hi j (omega (arith, at .within))))
+
+pub held-all : (n : ℕ) (s : List ℕ) (c : ℕ) → Held n s c → n ≤ c → Reflects true ((i : ℕ) → i < n → RowHolds n s i)
+held-all n s c was e = reflects-true (λ i hi j hj. was i j hi hj (omega arith))

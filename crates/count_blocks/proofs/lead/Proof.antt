@@ -1,0 +1,25 @@
+-- `recount::blocks::lead` meets its contract: each way out is a law of BlockLaws. Assumes nothing.
+use mathlib.Core.Logic.{inl, inr}
+use native.Mathlib.Omega.{arith}
+use borrow.Author.Needs.{needs}
+use borrow.Author.Tests.{eqb-true}
+use Rattle.count_blocks.proofs.BlockLaws.{led-set, led-same}
+use Rattle.count_blocks.proofs.lead.Statement.{statement}
+use Rattle.count_blocks.proofs.lead.Tie as tie
+
+returns : tie.Need-returns
+returns c = search led-set
+
+returns-2 : tie.Need-returns-2
+returns-2 c = led-same _ _ _ _ (omega (arith, eqb-true)) (inl (omega arith))
+
+returns-3 : tie.Need-returns-3
+returns-3 c = led-same _ _ _ _ (omega (arith, eqb-true)) (inr (omega arith))
+
+returns-4 : tie.Need-returns-4
+returns-4 c = search led-set
+
+pub lead-spec : {M : Type 1} → statement M
+lead-spec =
+    tie.close
+    (tie.spec (λ c κs. search needs) returns returns-2 (λ c. omega arith) returns-3 (λ c κs. search needs) returns-4)

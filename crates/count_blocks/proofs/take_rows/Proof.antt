@@ -1,0 +1,43 @@
+-- `recount::blocks::take_rows` meets its contract: the counts from the vertices that are gone from what is left of the mask are taken off.
+-- What is left falls with each turn. Assumes nothing.
+use native.Mathlib.Omega.{arith}
+use borrow.Author.Tests.{eqb-true, eqb-false}
+use Rattle.word.proofs.CountLaws.{lowest-lt, lowest-cleared-lt}
+use Rattle.count_blocks.proofs.BlockLaws.{BlockTaking, taken-start, taken-more, taken-done}
+use Rattle.count_blocks.proofs.take_rows.Statement.{statement}
+use Rattle.count_blocks.proofs.take_rows.Tie as tie
+
+abbrev Inv-loop : tie.InvT-loop
+Inv-loop n sheet mask c t₀ rest₀ t rest = BlockTaking n sheet mask c t₀ rest t
+
+abbrev μ-loop : tie.MeasureT-loop
+μ-loop n sheet mask c t₀ rest₀ t rest = rest
+
+loop-holds : tie.Need-loop-holds Inv-loop μ-loop
+loop-holds c = taken-start _ _ _ _ _ (c .before .pre .1)
+
+lowest-bit-requires : tie.Need-lowest-bit-requires Inv-loop μ-loop
+lowest-bit-requires c κs = omega (arith, eqb-false)
+
+row-base-requires : tie.Need-row-base-requires Inv-loop μ-loop
+row-base-requires c κs = (omega arith, lowest-lt _ _ _ (c .lowest-bit .ensures) (c .before .before .loop .inv .below))
+
+take-row-requires : tie.Need-take-row-requires Inv-loop μ-loop
+take-row-requires c κs =
+    let a = c .before .before .before .before .before .before .pre in
+    (omega (arith, c .before .before .before .before .loop .inv .long, a .3), omega (arith, c .before .row-base .ensures .within, a .0 .long))
+
+loop-less : tie.Need-loop-less Inv-loop μ-loop
+loop-less c = search lowest-cleared-lt
+
+loop-again : tie.Need-loop-again Inv-loop μ-loop
+loop-again c = search taken-more
+
+returns : tie.Need-returns Inv-loop μ-loop
+returns c = taken-done _ _ _ _ _ _ _ (c .before .loop .inv) (omega (arith, eqb-true))
+
+pub take-rows-spec : {M : Type 1} → statement M
+take-rows-spec =
+    tie.close
+    (tie.spec Inv-loop μ-loop loop-holds lowest-bit-requires row-base-requires (λ c. omega arith) take-row-requires (λ c κs. omega arith) loop-less loop-again
+    returns)

@@ -1,0 +1,76 @@
+-- What the internal functions that work by blocks of columns ask and promise. No public call's contract cites these. Definitions only.
+-- Assumes nothing.
+use mathlib.Core.Path.{_≡_}
+use mathlib.Core.Logic.{_⊎_}
+use mathlib.Core.List.{List}
+use Prim.Native.Nat.{ℕ, _+_, _*_, _%_, _^_, _≤_, _<_}
+use lib.ListN.{length, getD}
+use Rattle.sums.specs.Sum.{sum, delta}
+use Rattle.word.specs.Bit.{bit}
+use Rattle.word.specs.Wrap.{minus}
+use Rattle.sheet_theory.specs.Layout.{Shape, countsFrom, countAt}
+use Rattle.sheet_theory.specs.Internal.{successorsSum}
+
+-- how many columns a block has
+abbrev pub columns : ℕ
+columns = 16
+
+-- t has, for each column of the block from c on, the sum of the counts to it from the vertices of the mask, modulo 2 ^ 64
+pub record BlockSummed (n : ℕ) (s : List ℕ) (mask c : ℕ) (t : List ℕ) : Type 0 where
+  pub long : length t ≡ columns
+  pub sums : (j : ℕ) → j < columns → getD t j 0 ≡ sum n (λ b. bit mask b * countAt n s b (c + j)) % 2 ^ 64
+
+-- u has 1 at place 16, and 0 at every other
+pub record UnitWords (u : List ℕ) : Type 0 where
+  pub long : length u ≡ 32
+  pub one : (k : ℕ) → k < 32 → getD u k 0 ≡ delta k columns
+
+-- s is a sheet of n vertices, u has the words of `UnitWords`, and the block from c on lies within the n columns
+pub record BlockReady (n : ℕ) (s u : List ℕ) (c : ℕ) : Type 0 where
+  pub shape : Shape n s
+  pub unit : UnitWords u
+  pub within : c + columns ≤ n
+
+-- u is t with one added or taken off at the place of i, if it is among the columns from c on: op is `plus` or `minus`
+pub record OwnBy (op : ℕ → ℕ → ℕ) (i c : ℕ) (t u : List ℕ) : Type 0 where
+  pub long : length u ≡ columns
+  pub each : (j : ℕ) → j < columns → getD t j 0 < 2 ^ 64 → getD u j 0 ≡ op (getD t j 0) (delta i (c + j))
+
+-- u is t with the counts from the vertices of the mask to the columns from c on taken off
+pub record RowsTaken (n : ℕ) (s : List ℕ) (mask c : ℕ) (t u : List ℕ) : Type 0 where
+  pub long : length u ≡ length t
+  pub each : (j : ℕ) → j < columns → getD t j 0 < 2 ^ 64 → getD u j 0 ≡ minus (getD t j 0) (sum n (λ b. bit mask b * countAt n s b (c + j)))
+
+-- the count from i to j that the recurrence gives, if the edges from i lead to the vertices of the mask, modulo 2 ^ 64
+abbrev pub countByMask : ℕ → List ℕ → ℕ → ℕ → ℕ → ℕ
+countByMask n s i mask j = (delta i j + sum n (λ b. bit mask b * countAt n s b j)) % 2 ^ 64
+
+-- t has these counts from i to the columns from c on
+pub record BlockCounted (n : ℕ) (s : List ℕ) (i mask c : ℕ) (t : List ℕ) : Type 0 where
+  pub long : length t ≡ columns
+  pub counts : (j : ℕ) → j < columns → getD t j 0 ≡ countByMask n s i mask (c + j)
+
+-- the sheet has them
+abbrev pub PartHolds : ℕ → List ℕ → ℕ → ℕ → ℕ → Type 0
+PartHolds n s i mask c = (j : ℕ) → c ≤ j → j < c + columns → countAt n s i j ≡ countByMask n s i mask j
+
+-- t is s with these counts
+pub record PartFilled (n : ℕ) (s : List ℕ) (i mask c : ℕ) (t : List ℕ) : Type 0 where
+  pub long : length t ≡ length s
+  pub filled : (j : ℕ) → c ≤ j → j < c + columns → countAt n t i j ≡ countByMask n s i mask j
+  pub kept : (k : ℕ) → (k < countsFrom n i + c) ⊎ (countsFrom n i + c + columns ≤ k) → getD t k 0 ≡ getD s k 0
+
+-- the counts to the columns from c on satisfy the recurrence
+abbrev pub BlockHolds : ℕ → List ℕ → ℕ → Type 0
+BlockHolds n s c = (i : ℕ) → i < n → (j : ℕ) → c ≤ j → j < c + columns → countAt n s i j ≡ successorsSum n s i j
+
+-- r is leading, with i or without; without only if i leads nowhere by the mask and is none of the columns from c on
+pub record Led (leading i mask c r : ℕ) : Type 0 where
+  pub other : (k : ℕ) → (k ≡ i → ⊥) → bit r k ≡ bit leading k
+  pub out : bit r i ≡ 0 → (mask ≡ 0) × ((i < c) ⊎ (c + columns ≤ i))
+
+-- the block from r on lies within the n columns, and holds column c and the 15 after it, as far as there are
+pub record BlockAt (n c r : ℕ) : Type 0 where
+  pub low : r ≤ c
+  pub within : r + columns ≤ n
+  pub holds : (j : ℕ) → j < n → j < c + columns → j < r + columns

@@ -1,0 +1,242 @@
+// The counts by blocks of 16 columns, written or tested, on sheets of 16 vertices or more: the counts of a row to a block's columns are
+// added up, or taken off the stored ones, at once, from those successors alone that lead to one of the columns. The columns from c on
+// are the 16 of the block that begins there.
+ghost use mathlib.Core.Path.{_≡_};
+ghost use Prim.Native.Nat.{ℕ, _+_, _≤_, _<_, _^_};
+ghost use lib.ListN.{length};
+ghost use Rattle.word.specs.Wrap.{plus, minus};
+ghost use Rattle.answers.specs.Table.{Reflects};
+ghost use Rattle.sheet_theory.specs.Layout.{Shape};
+ghost use Rattle.sheet_theory.specs.Internal.{RowHolds, RowsBelow};
+ghost use Rattle.order.specs.Internal.{Ordered};
+ghost use Rattle.count_rows.specs.Internal.{counted, ColumnsFilled};
+ghost use Rattle.sheet.specs.Internal.{RowBy};
+ghost use Rattle.count_blocks.specs.Internal.{columns, UnitWords, OwnBy, BlockSummed, RowsTaken, BlockCounted, PartHolds, PartFilled};
+ghost use Rattle.count_blocks.specs.Internal.{Led, BlockAt, BlockReady, BlockHolds};
+use sheet::Sheet;
+
+// Internal: the columns of a block, whose counts are worked out together: so many that their sums fit in registers.
+pub const COLUMNS: usize = 16;
+
+// 32 words: 1 at place 16, and 0 at every other.
+fn unit_words() -> [u64; 32]
+    ensures { λ r. ⌜ UnitWords r ⌝ }
+{
+    let mut unit = [0u64; 32];
+    unit[COLUMNS] = 1;
+    unit
+}
+
+// The path from i to itself, added to the counts from i to the columns from c on.
+fn add_own(unit: &[u64; 32], i: usize, c: usize, t: &mut [u64; COLUMNS])
+    requires { ⌜ (UnitWords (now unit)) × (i < 64) × (c < 64) × (length (now t) ≡ columns) ⌝ }
+    ensures { λ r. ⌜ OwnBy plus i c (now (t .entry)) (now (t .exit)) ⌝ }
+{
+    if i < c {
+        return;
+    }
+    if c + COLUMNS <= i {
+        return;
+    }
+    sheet::rows::add_row(COLUMNS, unit, COLUMNS + c - i, t);
+}
+
+// For each column from c on, the sum of the counts to it from the vertices of the mask, modulo 2^64.
+fn sum_block(n: usize, sheet: &[u64], mask: u64, c: usize) -> [u64; COLUMNS]
+    requires { ⌜ (Shape n (now sheet)) × (mask < 2 ^ n) × (c + columns ≤ n) ⌝ }
+    ensures { λ r. ⌜ BlockSummed n (now (sheet .entry)) mask c r ⌝ }
+{
+    let mut t = [0u64; COLUMNS];
+    let mut rest = mask;
+    while rest != 0 {
+        let b = word::lowest_bit(rest);
+        let base = sheet::layout::row_base(n, b);
+        sheet::rows::add_row(COLUMNS, sheet, base + c, &mut t);
+        rest = word::clear_lowest(rest);
+    }
+    t
+}
+
+// The counts from i to the columns from c on that the recurrence gives, if the edges from i lead to the vertices of the mask.
+fn count_block(
+    n: usize,
+    sheet: &[u64],
+    unit: &[u64; 32],
+    i: usize,
+    mask: u64,
+    c: usize,
+) -> [u64; COLUMNS]
+    requires { ⌜ (BlockReady n (now sheet) (now unit) c) × (i < n) × (mask < 2 ^ n) ⌝ }
+    ensures { λ r. ⌜ BlockCounted n (now (sheet .entry)) i mask c r ⌝ }
+{
+    let mut t = sum_block(n, sheet, mask, c);
+    add_own(unit, i, c, &mut t);
+    t
+}
+
+// The vertices found to lead to one of the columns from c on, and i too if it leads there by a vertex of the mask or is itself one of
+// them.
+fn lead(leading: u64, i: usize, mask: u64, c: usize) -> u64
+    requires { ⌜ (i < 64) × (c < 64) ⌝ }
+    ensures { λ r. ⌜ Led leading i mask c r ⌝ }
+{
+    if mask != 0 {
+        return word::set_bit(leading, i);
+    }
+    if i < c {
+        return leading;
+    }
+    if c + COLUMNS <= i {
+        return leading;
+    }
+    word::set_bit(leading, i)
+}
+
+// Where the block of columns begins that holds column c and those after it: at c, or earlier where fewer than 16 are left.
+fn block_at(n: usize, c: usize) -> usize
+    requires { ⌜ (columns ≤ n) × (n ≤ 64) × (c < n) ⌝ }
+    ensures { λ r. ⌜ BlockAt n c r ⌝ }
+{
+    if n < c + COLUMNS {
+        return n - COLUMNS;
+    }
+    c
+}
+
+// The counts from i to the columns from c on, written.
+fn fill_part(n: usize, sheet: &mut [u64], unit: &[u64; 32], i: usize, mask: u64, c: usize)
+    requires { ⌜ (BlockReady n (now sheet) (now unit) c) × (i < n) × (mask < 2 ^ n) ⌝ }
+    ensures { λ r. ⌜ PartFilled n (now (sheet .entry)) i mask c (now (sheet .exit)) ⌝ }
+{
+    let t = count_block(n, sheet, unit, i, mask, c);
+    count_rows::put_row(COLUMNS, sheet, sheet::layout::row_base(n, i) + c, &t);
+}
+
+// The counts from every vertex to the columns from c on, written in the order given.
+fn fill_block(
+    n: usize,
+    sheet: &mut [u64],
+    order: &[usize; Sheet::VERTICES],
+    unit: &[u64; 32],
+    c: usize,
+)
+    requires { ⌜ (BlockReady n (now sheet) (now unit) c) × (RowsBelow n (now sheet)) × (Ordered n (now sheet) (now order)) ⌝ }
+    ensures { λ r. ⌜ ColumnsFilled n (now (sheet .entry)) c columns (now (sheet .exit)) ⌝ }
+{
+    let mut leading = 0;
+    let mut k = 0;
+    while k < n {
+        let i = order[k];
+        let mask = sheet[i] & leading;
+        fill_part(n, sheet, unit, i, mask, c);
+        leading = lead(leading, i, mask, c);
+        k += 1;
+    }
+}
+
+// Internal: the counts, in the order given, block by block.
+pub fn fill_blocks(n: usize, sheet: &mut [u64], order: &[usize; Sheet::VERTICES])
+    requires { ⌜ (Shape n (now sheet)) × (RowsBelow n (now sheet)) × (Ordered n (now sheet) (now order)) × (columns ≤ n) ⌝ }
+    ensures { λ r. ⌜ now (sheet .exit) ≡ counted n (now (sheet .entry)) ⌝ }
+{
+    let unit = unit_words();
+    let mut c = 0;
+    while c < n {
+        fill_block(n, sheet, order, &unit, block_at(n, c));
+        c += COLUMNS;
+    }
+}
+
+// The n words from base on, taken off the first n of t, modulo 2^64.
+fn take_row(n: usize, words: &[u64], base: usize, t: &mut [u64])
+    requires { ⌜ (n ≤ length (now t)) × (base + n ≤ length (now words)) ⌝ }
+    ensures { λ r. ⌜ RowBy minus n (now (words .entry)) base (now (t .entry)) (now (t .exit)) ⌝ }
+{
+    let mut j = 0;
+    while j < n {
+        t[j] = word::wrapping_sub(t[j], words[base + j]);
+        j += 1;
+    }
+}
+
+// The path from i to itself, taken off the counts from i to the columns from c on.
+fn take_own(unit: &[u64; 32], i: usize, c: usize, t: &mut [u64; COLUMNS])
+    requires { ⌜ (UnitWords (now unit)) × (i < 64) × (c < 64) × (length (now t) ≡ columns) ⌝ }
+    ensures { λ r. ⌜ OwnBy minus i c (now (t .entry)) (now (t .exit)) ⌝ }
+{
+    if i < c {
+        return;
+    }
+    if c + COLUMNS <= i {
+        return;
+    }
+    take_row(COLUMNS, unit, COLUMNS + c - i, t);
+}
+
+// The counts from the vertices of the mask to the columns from c on, taken off.
+fn take_rows(n: usize, sheet: &[u64], mask: u64, c: usize, t: &mut [u64; COLUMNS])
+    requires { ⌜ (Shape n (now sheet)) × (mask < 2 ^ n) × (c + columns ≤ n) × (length (now t) ≡ columns) ⌝ }
+    ensures { λ r. ⌜ RowsTaken n (now (sheet .entry)) mask c (now (t .entry)) (now (t .exit)) ⌝ }
+{
+    let mut rest = mask;
+    while rest != 0 {
+        let base = sheet::layout::row_base(n, word::lowest_bit(rest));
+        take_row(COLUMNS, sheet, base + c, t);
+        rest = word::clear_lowest(rest);
+    }
+}
+
+// Whether the counts from i to the columns from c on are those that the recurrence gives, if the edges from i lead to the vertices of
+// the mask: whether nothing is left of them once these are taken off.
+fn part_holds(n: usize, sheet: &[u64], unit: &[u64; 32], i: usize, mask: u64, c: usize) -> bool
+    requires { ⌜ (BlockReady n (now sheet) (now unit) c) × (i < n) × (mask < 2 ^ n) ⌝ }
+    ensures { λ r. ⌜ Reflects r (PartHolds n (now (sheet .entry)) i mask c) ⌝ }
+{
+    let zeros = [0u64; COLUMNS];
+    let mut t = [0u64; COLUMNS];
+    sheet::rows::add_row(COLUMNS, sheet, sheet::layout::row_base(n, i) + c, &mut t);
+    take_own(unit, i, c, &mut t);
+    take_rows(n, sheet, mask, c, &mut t);
+    count_rows::same_row(COLUMNS, &t, 0, &zeros)
+}
+
+// Whether the counts from every vertex to the columns from c on satisfy the recurrence.
+fn block_holds(
+    n: usize,
+    sheet: &[u64],
+    order: &[usize; Sheet::VERTICES],
+    unit: &[u64; 32],
+    c: usize,
+) -> bool
+    requires { ⌜ (BlockReady n (now sheet) (now unit) c) × (RowsBelow n (now sheet)) × (Ordered n (now sheet) (now order)) ⌝ }
+    ensures { λ r. ⌜ Reflects r (BlockHolds n (now (sheet .entry)) c) ⌝ }
+{
+    let mut leading = 0;
+    let mut k = 0;
+    while k < n {
+        let i = order[k];
+        let mask = sheet[i] & leading;
+        if !part_holds(n, sheet, unit, i, mask, c) {
+            return false;
+        }
+        leading = lead(leading, i, mask, c);
+        k += 1;
+    }
+    true
+}
+
+// Internal: whether all counts satisfy the recurrence, block by block.
+pub fn blocks_hold(n: usize, sheet: &[u64], order: &[usize; Sheet::VERTICES]) -> bool
+    requires { ⌜ (Shape n (now sheet)) × (RowsBelow n (now sheet)) × (Ordered n (now sheet) (now order)) × (columns ≤ n) ⌝ }
+    ensures { λ r. ⌜ Reflects r ((i : ℕ) → i < n → RowHolds n (now (sheet .entry)) i) ⌝ }
+{
+    let unit = unit_words();
+    let mut c = 0;
+    while c < n {
+        if !block_holds(n, sheet, order, &unit, block_at(n, c)) {
+            return false;
+        }
+        c += COLUMNS;
+    }
+    true
+}

@@ -1,0 +1,15 @@
+-- `recount::rows::sum_successors` meets its contract: the rows of the successors of i are added up, with one at i. Assumes nothing.
+use native.Mathlib.Omega.{arith}
+use borrow.Author.Needs.{needs}
+use Rattle.count_rows.proofs.RowLaws.{successors-summed}
+use Rattle.count_rows.proofs.sum_successors.Statement.{statement}
+use Rattle.count_rows.proofs.sum_successors.Tie as tie
+
+returns : tie.Need-returns
+returns c = search (successors-summed, arith)
+
+pub sum-successors-spec : {M : Type 1} → statement M
+sum-successors-spec =
+    tie.close
+    (tie.spec (λ c. search needs) (λ c. search needs) (λ c κs. search needs) (λ c. search needs) (λ c. search needs) (λ c κs. search needs)
+    (λ c. search needs) (λ c. search needs) returns)

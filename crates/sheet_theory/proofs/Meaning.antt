@@ -1,0 +1,110 @@
+-- WHAT THE CALLS MEAN, in terms of paths and of valid sheets. Assumes nothing.
+use mathlib.Core.Path.{_≡_, refl, sym, ap, subst, _∙_}
+use mathlib.Core.Logic.{inl, inr}
+use mathlib.Core.List.{List, []}
+use Prim.Native.Nat.{ℕ, _+_, _-_, _*_, _%_, _^_, _≤_, _<_}
+use native.Mathlib.Nat.{mod-eq-of-lt, zero-mul, mul-le-mul-right}
+use native.Mathlib.Decide.{ℕ-discrete}
+use native.Mathlib.Omega.{arith}
+use lib.ListN.{length, getD, set, replicate, length-replicate}
+use lib.Pow.{pow-pos}
+use lib.Seq.{getD-set-same, getD-set-other}
+use Rattle.sums.specs.Sum.{sum, delta}
+use Rattle.sums.proofs.SumLaws.{sum-cong, sum-all-zero, delta-refl, delta-diff}
+use Rattle.word.specs.Bit.{bit, bitCount}
+use Rattle.word.proofs.BitLaws.{bit-zero}
+use Rattle.word.proofs.CountLaws.{bitCount-below}
+use Rattle.graph.specs.Graph.{Exactly, IsPath}
+use Rattle.graph.proofs.Bound.{bound}
+use Rattle.graph.proofs.Edges.{edges-le}
+use Rattle.graph.proofs.Walks.{edgeless-acyclic}
+use Rattle.answers.specs.Answers.{answer, decided, answered}
+use Rattle.sheet_theory.specs.Layout.{Shape, size, rowAt, countAt, edgeAt, emptySheet, setBits}
+use Rattle.sheet_theory.specs.Conditions.{vertexConditions}
+use Rattle.sheet_theory.specs.Valid.{Valid}
+use Rattle.sheet_theory.specs.Calls.{emptyAnswer, emptyAfter, pathCountAnswer}
+use Rattle.sheet_theory.specs.Internal.{successorsSum, RowHolds}
+use Rattle.sheet_theory.proofs.ShapeLaws.{accepted-shape, shape-passed}
+use Rattle.sheet_theory.proofs.StrayLaws.{rows-iff}
+use Rattle.sheet_theory.proofs.LayoutLaws.{place-lt, length-redone, row-redone, count-redone}
+use Rattle.sheet_theory.proofs.ValidLaws.{edge-le, valid-iff-holds, valid-only}
+use Rattle.sheet_theory.proofs.Refusals.{empty-table, path-count-table}
+
+-- ---- empty
+
+module _ (n : ℕ) where
+  empty-long : length (emptySheet n) ≡ size n
+  unfolding emptySheet
+  empty-long = length-redone n (λ i. 0) delta (replicate (size n) 0) ∙ length-replicate {A = ℕ} (size n) 0
+
+  empty-row : (i : ℕ) → i < n → rowAt (emptySheet n) i ≡ 0
+  unfolding emptySheet
+  empty-row i hi = row-redone n (λ i. 0) delta (replicate (size n) 0) (length-replicate {A = ℕ} (size n) 0) i hi
+
+  empty-count : (i j : ℕ) → i < n → j < n → countAt n (emptySheet n) i j ≡ delta i j
+  unfolding emptySheet
+  empty-count i j hi hj = count-redone n (λ i. 0) delta (replicate (size n) 0) (length-replicate {A = ℕ} (size n) 0) i j hi hj
+
+  -- the empty sheet has no edge
+  pub empty-edge : (i j : ℕ) → i < n → j < n → edgeAt (emptySheet n) i j ≡ 0
+  empty-edge i j hi hj = ap (λ (x : ℕ). bit x j) (empty-row i hi) ∙ bit-zero j
+
+  delta-small : (i j : ℕ) → delta i j < 2 ^ 64
+  delta-small i j = elim (ℕ-discrete i j) [ yes e ↦ rw (e, delta-refl j) (omega (arith, pow-pos 64)) | no d ↦ rw (delta-diff i j d) (pow-pos 64) ]
+
+  empty-holds : (i : ℕ) → i < n → RowHolds n (emptySheet n) i
+  unfolding successorsSum
+  empty-holds i hi j hj =
+      let e : delta i j + sum n (λ b. edgeAt (emptySheet n) i b * countAt n (emptySheet n) b j) ≡ delta i j
+      = omega (arith, sum-all-zero n _ (λ b hb. ap (λ (x : ℕ). x * countAt n (emptySheet n) b j) (empty-edge i b hi hb) ∙ zero-mul _)) in
+      empty-count i j hi hj ∙ sym (ap (λ (x : ℕ). x % 2 ^ 64) e ∙ mod-eq-of-lt (delta-small i j))
+
+  -- and is valid
+  pub empty-valid : 1 ≤ n → n ≤ 64 → Valid n (emptySheet n)
+  empty-valid low high =
+      valid-iff-holds n (emptySheet n) (record { low = low; high = high; long = empty-long })
+      (λ r. omega (arith, r .2 .2, ap (λ (x : ℕ). bit x (r .2 .0)) (empty-row (r .0) (r .1)) ∙ bit-zero (r .2 .0)))
+      (edgeless-acyclic n (edgeAt (emptySheet n)) empty-edge) .1 empty-holds
+
+-- an accepted call leaves a valid sheet without edges
+pub empty-leaves : (n : ℕ) (s : List ℕ) → emptyAnswer n s .number ≡ 0
+    → Valid n (emptyAfter n s) × ((i j : ℕ) → i < n → j < n → edgeAt (emptyAfter n s) i j ≡ 0)
+empty-leaves n s z =
+    let e : emptyAfter n s ≡ emptySheet n = ap (λ (k : ℕ). decided k (emptySheet n) s) z in
+    let h : Shape n s = accepted-shape n s [] (empty-table n s 0 .0 z) in
+    rw e (empty-valid n (h .low) (h .high), empty-edge n)
+
+-- ---- path_count
+
+-- on any sheet the value is the word where the count stands
+pub path-count-stored : (n : ℕ) (s : List ℕ) (i j : ℕ) → pathCountAnswer n s i j .number ≡ 0 → pathCountAnswer n s i j ≡ answer 0 0 (getD s (n + i * n + j) 0)
+path-count-stored n s i j z = ap (λ (k : ℕ). answered k (countAt n s i j)) z
+
+-- on a valid sheet a call that names two vertices is accepted, and the value is exactly the number of paths from the one to the other
+pub path-count-exact : (n : ℕ) (s : List ℕ) (i j : ℕ) → Valid n s → i < n → j < n
+    → (pathCountAnswer n s i j .number ≡ 0) × Exactly (IsPath n (edgeAt s) i j) (pathCountAnswer n s i j .value)
+path-count-exact n s i j v hi hj =
+    let z : pathCountAnswer n s i j .number ≡ 0
+    = path-count-table n s i j 0 .1 (shape-passed n s (v .shape) (vertexConditions n i j []) 0 (inr (λ c. elim c [ inl l ↦ omega arith | inr l ↦ omega arith ], refl))) in
+    (z, subst (Exactly (IsPath n (edgeAt s) i j)) (sym (ap (λ (k : ℕ). decided k (countAt n s i j) 0) z)) (v .counts i j hi hj))
+
+-- and that is at most 2 ^ (n - 2) between two different vertices, so that with 64 vertices it fits a word
+pub valid-count-le : (n : ℕ) (s : List ℕ) → Valid n s → (i j : ℕ) → i < n → j < n → (i ≡ j → ⊥) → countAt n s i j ≤ 2 ^ (n - 2)
+valid-count-le n s v i j hi hj d = bound n (edgeAt s) (v .acyclic) i j (countAt n s i j) hi hj d (v .counts i j hi hj)
+
+-- ---- valid sheets
+
+-- a valid sheet has at most 2,016 edges
+pub valid-edges-le : (n : ℕ) (s : List ℕ) → Valid n s → setBits n s ≤ 2016
+unfolding setBits
+valid-edges-le n s v =
+    let high : n ≤ 64 = v .shape .high in
+    let e : sum n (λ i. bitCount (rowAt s i)) ≡ sum n (λ i. sum n (edgeAt s i))
+    = sum-cong n _ _ (λ i hi. bitCount-below n (rowAt s i) high (rows-iff n s .0 (v .rows) i hi)) in
+    omega (arith, e, edges-le n (edgeAt s) (v .acyclic) (λ i j hi hj. edge-le s i j), mul-le-mul-right n high)
+
+-- a valid sheet with one count word changed is not valid
+pub valid-changed : (n : ℕ) (s : List ℕ) → Valid n s → (i j x : ℕ) → i < n → j < n → (x ≡ countAt n s i j → ⊥) → ¬ (Valid n (set s (n + i * n + j) x))
+valid-changed n s v i j x hi hj d v′ =
+    let e = valid-only n (set s (n + i * n + j) x) s v′ v (λ k hk. getD-set-other s (n + i * n + j) k x 0 (λ q. omega arith)) in
+    d (sym (getD-set-same s (n + i * n + j) x 0 (omega (arith, place-lt n i j hi hj, v .shape .long))) ∙ ap (λ (l : List ℕ). countAt n l i j) e)

@@ -1,0 +1,114 @@
+-- A sheet without a cycle whose counts satisfy the recurrence modulo 2 ^ 64 is valid, and a valid sheet's counts satisfy it. A valid
+-- sheet is known by its rows. A call that wants a valid sheet has one where it finds nothing, and finds nothing on one. Assumes nothing.
+use mathlib.Core.Path.{_≡_, refl, sym, ap, subst, _∙_}
+use mathlib.Core.Logic.{inl, inr, _↔_}
+use mathlib.Core.List.{List, _∷_}
+use Prim.Native.Nat.{ℕ, _+_, _*_, _%_, _^_, _≤_, _<_}
+use native.Mathlib.Nat.{mod-mod, mod-lt, mod-eq-of-lt}
+use native.Mathlib.Decide.{ℕ-discrete}
+use native.Mathlib.Omega.{arith}
+use lib.Pow.{pow-pos}
+use Rattle.sums.specs.Sum.{delta}
+use Rattle.sums.proofs.SumLaws.{sum-cong}
+use Rattle.word.specs.Bit.{bit}
+use Rattle.word.proofs.BitLaws.{bit-lt}
+use Rattle.graph.specs.Graph.{Exactly, IsPath, Acyclic}
+use Rattle.graph.specs.Count.{pathCount}
+use Rattle.graph.proofs.Lists.{exactly-only}
+use Rattle.graph.proofs.Recurrence.{pathCount-recurrence, pathCount-cong, recurrence-mod-only}
+use Rattle.graph.proofs.Counting.{pathCount-exact}
+use Rattle.graph.proofs.Bound.{paths-below}
+use Rattle.answers.specs.Table.{_gives_, Conditions, First}
+use Rattle.sheet_theory.specs.Layout.{Shape, rowAt, countAt, edgeAt}
+use Rattle.sheet_theory.specs.Conditions.{StrayRow}
+use Rattle.sheet_theory.specs.Valid.{Valid, validConditions}
+use Rattle.sheet_theory.specs.Internal.{successorsSum, RowHolds}
+use Rattle.answers.proofs.TableLaws.{first-past, first-rest}
+use Rattle.sheet_theory.proofs.ShapeLaws.{shape-not, shape-passed, shape-rest}
+use Rattle.sheet_theory.proofs.LayoutLaws.{sheet-ext}
+
+pub edge-le : (s : List ℕ) (i j : ℕ) → edgeAt s i j ≤ 1
+edge-le s i j = omega (arith, bit-lt (rowAt s i) j)
+
+-- the paths over the rows of a sheet without a cycle are as many as `pathCount` says, and that fits a word
+module _ (n : ℕ) (s : List ℕ) (high : n ≤ 64) (acyclic : Acyclic n (edgeAt s)) where
+  pub paths-exactly : (i j : ℕ) → i < n → Exactly (IsPath n (edgeAt s) i j) (pathCount n (edgeAt s) i j)
+  paths-exactly i j hi = pathCount-exact n (edgeAt s) acyclic (λ a b ha hb. edge-le s a b) i j hi
+
+  pub paths-fit : (i j : ℕ) → i < n → j < n → pathCount n (edgeAt s) i j % 2 ^ 64 ≡ pathCount n (edgeAt s) i j
+  paths-fit i j hi hj = mod-eq-of-lt (paths-below n (edgeAt s) acyclic high i j _ hi hj (paths-exactly i j hi))
+
+  -- counts that satisfy the recurrence are the numbers of paths
+  holds-count : ((i : ℕ) → i < n → RowHolds n s i) → (i j : ℕ) → i < n → j < n → countAt n s i j ≡ pathCount n (edgeAt s) i j
+  unfolding successorsSum
+  holds-count h i j hi hj =
+      sym (mod-eq-of-lt (rw (h i hi j hj) (mod-lt _ (pow-pos 64))))
+      ∙ recurrence-mod-only n (edgeAt s) acyclic (2 ^ 64) (countAt n s) (λ a b ha hb. ap (λ (x : ℕ). x % 2 ^ 64) (h a ha b hb) ∙ mod-mod _ (2 ^ 64)) i j hi hj
+      ∙ paths-fit i j hi hj
+
+  -- and the numbers of paths satisfy it
+  count-holds : ((i j : ℕ) → i < n → j < n → countAt n s i j ≡ pathCount n (edgeAt s) i j) → (i : ℕ) → i < n → RowHolds n s i
+  unfolding successorsSum
+  count-holds h i hi j hj =
+      h i j hi hj
+      ∙ sym (paths-fit i j hi hj)
+      ∙ ap (λ (x : ℕ). x % 2 ^ 64)
+      (pathCount-recurrence n (edgeAt s) acyclic i j hi hj ∙ ap (λ (x : ℕ). delta i j + x) (sum-cong n _ _ (λ b hb. ap (λ (x : ℕ). edgeAt s i b * x) (sym (h b j hb hj)))))
+
+pub valid-count : (n : ℕ) (s : List ℕ) → Valid n s → (i j : ℕ) → i < n → j < n → countAt n s i j ≡ pathCount n (edgeAt s) i j
+valid-count n s v i j hi hj = exactly-only (v .counts i j hi hj) (paths-exactly n s (v .shape .high) (v .acyclic) i j hi)
+
+-- VALID: a sheet of the right shape, without a stray bit and without a cycle, is valid exactly if its counts satisfy the recurrence
+pub valid-iff-holds : (n : ℕ) (s : List ℕ) → Shape n s → ¬ (StrayRow n s) → Acyclic n (edgeAt s) → Valid n s ↔ ((i : ℕ) → i < n → RowHolds n s i)
+valid-iff-holds n s shape rows acyclic = (
+  λ v. count-holds n s (shape .high) acyclic (valid-count n s v),
+  λ h. record {
+    shape = shape;
+    rows = rows;
+    acyclic = acyclic;
+    counts = λ i j hi hj. subst (Exactly (IsPath n (edgeAt s) i j)) (sym (holds-count n s (shape .high) acyclic h i j hi hj)) (paths-exactly n s (shape .high) acyclic i j hi);
+  },
+)
+
+-- two valid sheets with the same rows are the same, word for word
+pub valid-only : (n : ℕ) (s t : List ℕ) → Valid n s → Valid n t → ((i : ℕ) → i < n → rowAt s i ≡ rowAt t i) → s ≡ t
+valid-only n s t v v′ h =
+    sheet-ext n s t (v .shape .long) (v′ .shape .long) h
+    (λ i j hi hj.
+    valid-count n s v i j hi hj
+    ∙ pathCount-cong n (edgeAt s) (edgeAt t) (λ a b ha hb. ap (λ x. bit x b) (h a ha)) i j hi
+    ∙ sym (valid-count n t v′ i j hi hj))
+
+-- ---- what a call that wants a valid sheet looks for
+
+-- a sheet that cannot be other than valid is valid: each count is or is not the number of paths
+valid-stable : (n : ℕ) (s : List ℕ) → Shape n s → ¬ (¬ (Valid n s)) → Valid n s
+valid-stable n s shape d =
+    let acyclic : Acyclic n (edgeAt s) = λ c. d (λ v. v .acyclic c) in
+    record {
+      shape = shape;
+      rows = λ c. d (λ v. v .rows c);
+      acyclic = acyclic;
+      counts = λ i j hi hj.
+          elim (ℕ-discrete (countAt n s i j) (pathCount n (edgeAt s) i j)) [
+            | yes e ↦ rw e (paths-exactly n s (shape .high) acyclic i j hi)
+            | no c ↦ absurd (d (λ v. c (valid-count n s v i j hi hj)))
+          ];
+    }
+
+pub accepted-valid : (n : ℕ) (s : List ℕ) (cs : Conditions) → First (validConditions n s cs) 0 → Valid n s
+accepted-valid n s cs f =
+    let a = first-past f in
+    let b = first-past (a .1) in
+    valid-stable n s (shape-not n s (a .0) (b .0)) (first-past (b .1) .0)
+
+-- on a sheet of its shape that is not valid the number is 9, whatever comes after
+pub valid-refused : (n : ℕ) (s : List ℕ) → Shape n s → ¬ (Valid n s) → (cs : Conditions) → First (validConditions n s cs) 9
+valid-refused n s h d cs = shape-passed n s h ((¬ (Valid n s)) gives 9 ∷ cs) 9 (inl (d, refl))
+
+-- on a valid one what comes after gives it
+pub valid-passed : (n : ℕ) (s : List ℕ) → Valid n s → (cs : Conditions) (k : ℕ) → First cs k → First (validConditions n s cs) k
+valid-passed n s v cs k f = shape-passed n s (v .shape) ((¬ (Valid n s)) gives 9 ∷ cs) k (inr (λ d. d v, f))
+
+pub valid-rest : (n : ℕ) (s : List ℕ) → Valid n s → (cs : Conditions) (k : ℕ) → First (validConditions n s cs) k → First cs k
+valid-rest n s v cs k f = first-rest (λ d. d v) (shape-rest n s (v .shape) ((¬ (Valid n s)) gives 9 ∷ cs) k f)

@@ -1,0 +1,29 @@
+-- What the laws of this crate and the internal functions of others share. No public call's contract cites these. Definitions only.
+-- Assumes nothing.
+use mathlib.Core.Path.{_≡_}
+use mathlib.Core.List.{List, []}
+use Prim.Native.Nat.{ℕ, _+_, _*_, _%_, _^_, _<_}
+use Rattle.sums.specs.Sum.{sum, delta}
+use Rattle.answers.specs.Table.{firstTrue}
+use Rattle.sheet_theory.specs.Layout.{rowAt, countAt, edgeAt}
+use Rattle.sheet_theory.specs.Conditions.{vertexTests, sizedTests}
+
+-- the number that the checks of the shape give: 1, 2 or 0, of n vertices and len words
+abbrev pub shapeNumber : ℕ → ℕ → ℕ
+shapeNumber n len = firstTrue (sizedTests n len [])
+
+-- the same, with 3 for a vertex i or j that there is not
+abbrev pub verticesNumber : ℕ → ℕ → ℕ → ℕ → ℕ
+verticesNumber n len i j = firstTrue (sizedTests n len (vertexTests n i j []))
+
+-- the count from i to j that the recurrence gives, from those of the successors of i, modulo 2 ^ 64
+unfoldable pub successorsSum : ℕ → List ℕ → ℕ → ℕ → ℕ
+successorsSum n s i j = (delta i j + sum n (λ b. edgeAt s i b * countAt n s b j)) % 2 ^ 64
+
+-- the counts from i satisfy the recurrence
+abbrev pub RowHolds : ℕ → List ℕ → ℕ → Type 0
+RowHolds n s i = (j : ℕ) → j < n → countAt n s i j ≡ successorsSum n s i j
+
+-- no row has a bit at n or above, by the numbers
+abbrev pub RowsBelow : ℕ → List ℕ → Type 0
+RowsBelow n s = (i : ℕ) → i < n → rowAt s i < 2 ^ n

@@ -1,0 +1,5 @@
+pub mod Layout
+pub mod Conditions
+pub mod Valid
+pub mod Calls
+pub mod Internal
