@@ -1,9 +1,9 @@
 -- Taking away, one after another, vertices without an edge into what is left: if no such vertex is left there is a cycle, and if none
--- is left at all there is no cycle. Assumes nothing.
+-- is left at all there is no cycle. A walk of more than n vertices shows a cycle too. Assumes nothing.
 use mathlib.Core.Path.{_≡_}
-use Prim.Native.Nat.{ℕ, zero, suc, _<_}
+use Prim.Native.Nat.{ℕ, zero, suc, _+_, _<_}
 use native.Mathlib.Omega.{arith}
-use Rattle.graph.specs.Graph.{Cycle, Acyclic}
+use Rattle.graph.specs.Graph.{Edge, Cycle, Acyclic}
 use Rattle.graph.specs.Order.{Stuck, Order}
 use Rattle.graph.proofs.Deep.{Deep, deep, deep-acyclic, cycle?}
 
@@ -24,3 +24,21 @@ module _ (n : ℕ) (w : ℕ → ℕ → ℕ) where
   -- a graph all of whose vertices stand in such an order has no cycle
   pub order-acyclic : (k : ℕ) (v : ℕ → ℕ) → Order n w k v → ((i : ℕ) → i < n → (m : ℕ) × (m < k) × (v m ≡ i)) → Acyclic n w
   order-acyclic k v o h = deep-acyclic n w k (λ i hi. let r = h i hi in rw (r .2) at (order-deep k v o k (r .0) (r .1) (r .1)))
+
+-- ---- a walk of more than n vertices
+
+module _ (n : ℕ) (w : ℕ → ℕ → ℕ) (v : ℕ → ℕ) (b : ℕ) (edges : (k : ℕ) → k + 1 < n → Edge n w (v k) (v (k + 1))) (vertex : (k : ℕ) → k < n → v k < n) (hb : b < n)
+    (last : (k : ℕ) → n ≡ k + 1 → Edge n w (v k) b) where
+  walk-not-deep : (m k : ℕ) → k + suc m ≡ n → Deep n w (suc m) (v k) → ⊥
+  walk-not-deep zero k e d = d b hb (last k (omega arith))
+  walk-not-deep (suc m) k e d = walk-not-deep m (k + 1) (omega arith) (d (v (k + 1)) (vertex (k + 1) (omega arith)) (edges k (omega arith)))
+
+-- were there no cycle, no walk would have more than n vertices
+pub walk-cycle : (n : ℕ) (w : ℕ → ℕ → ℕ) (v : ℕ → ℕ) (b : ℕ) → ((k : ℕ) → k + 1 < n → Edge n w (v k) (v (k + 1))) → ((k : ℕ) → k < n → v k < n) → b < n
+    → ((k : ℕ) → n ≡ k + 1 → Edge n w (v k) b) → Cycle n w
+walk-cycle zero w v b edges vertex hb last = absurd (omega arith)
+walk-cycle (suc m) w v b edges vertex hb last =
+    elim (cycle? (suc m) w) [
+      | yes c ↦ c
+      | no a ↦ absurd (walk-not-deep (suc m) w v b edges vertex hb last m 0 (omega arith) (deep (suc m) w a (v 0) (vertex 0 (omega arith))))
+    ]

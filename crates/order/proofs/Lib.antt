@@ -1,1 +1,2 @@
+pub mod StackLaws
 pub mod OrderLaws

@@ -1,21 +1,21 @@
--- What the search for an order of the vertices asks and promises. No public call's contract cites these. Definitions only. Assumes
--- nothing.
+-- What the search for a topological order asks and promises. No public call's contract cites these. Definitions only. Assumes nothing.
 use mathlib.Core.Path.{_≡_}
-use mathlib.Core.Bool.{Bool, true, false, cond}
+use mathlib.Core.Bool.{Bool, true, false}
 use mathlib.Core.List.{List}
 use Prim.Native.Nat.{ℕ, _+_, _^_, _≤_, _<_}
 use lib.Bits.{bitAnd}
-use lib.Dec.{eqb}
-use lib.ListN.{length, getD, set}
-use Rattle.word.specs.Bit.{bit, hasBit, withoutBit, bitCount}
-use Rattle.graph.specs.Graph.{Cycle}
+use lib.ListN.{length, getD}
+use Rattle.word.specs.Bit.{bit, withoutBit, bitCount}
+use Rattle.graph.specs.Graph.{Edge, Cycle}
 use Rattle.graph.specs.Order.{Order}
 use Rattle.sheet_theory.specs.Layout.{rowAt, edgeAt}
 use Rattle.order.specs.declared.Peeling.{Peeling}
 
--- the vertex at place k of an order
+-- the vertex at place k of an order or of a stack
 abbrev pub vertexAt : List ℕ → ℕ → ℕ
 vertexAt l k = getD l k 0
+
+-- ---- the vertices taken away
 
 -- l holds, in order, the vertices taken away from the graph of s, and p how many, and those that are left: each edge from a vertex
 -- taken away leads to one that was taken away before it
@@ -26,26 +26,36 @@ pub record Peeled (n : ℕ) (s : List ℕ) (p : Peeling) (l : List ℕ) : Type 0
   pub order : Order n (edgeAt s) (p .count) (vertexAt l)
   pub taken : (i : ℕ) → i < n → bit (p .left) i ≡ 0 → (m : ℕ) × (m < p .count) × (vertexAt l m ≡ i)
 
--- x, if vertex i is left and no edge leads by its row to what is left, else y
-unfoldable pub ifFree : {A : Type 0} → Peeling → ℕ → ℕ → A → A → A
-ifFree p i row x y = cond (hasBit (p .left) i) (cond (eqb (bitAnd row (p .left)) 0) x y) y
-
--- p and l once vertex i with its row has been looked at: i is taken away and entered, if it can be
-abbrev pub lookedAt : Peeling → ℕ → ℕ → Peeling
-lookedAt p i row = ifFree p i row (record { left = withoutBit (p .left) i; count = p .count + 1 }) p
-
-abbrev pub enteredAt : Peeling → List ℕ → ℕ → ℕ → List ℕ
-enteredAt p l i row = ifFree p i row (set l (p .count) i) l
+-- p once vertex v is taken away
+abbrev pub takenAway : Peeling → ℕ → Peeling
+takenAway p v = record { left = withoutBit (p .left) v; count = p .count + 1 }
 
 -- from vertex i no edge leads to a vertex that is left
 abbrev pub Free : List ℕ → ℕ → ℕ → Type 0
 Free s left i = bitAnd (rowAt s i) left ≡ 0
 
--- the vertices from i to n - 1 have been looked at, and p has become q: where none was taken away, none of them can be
-pub record Looked (n : ℕ) (s : List ℕ) (p : Peeling) (i : ℕ) (q : Peeling) (l : List ℕ) : Type 0 where
-  pub peeled : Peeled n s q l
-  pub fewer : q .left ≤ p .left
-  pub stuck : q .left ≡ p .left → (k : ℕ) → i ≤ k → k < n → bit (p .left) k ≡ 1 → ¬ (Free s (p .left) k)
+-- ---- the stack of the search
+
+-- the first d entries of l are vertices that are left, and from each an edge leads to the next
+pub record Stack (n : ℕ) (s : List ℕ) (left : ℕ) (l : List ℕ) (d : ℕ) : Type 0 where
+  pub long : length l ≡ 64
+  pub short : d ≤ n
+  pub held : (k : ℕ) → k < d → bit left (vertexAt l k) ≡ 1
+  pub edges : (k : ℕ) → k + 1 < d → Edge n (edgeAt s) (vertexAt l k) (vertexAt l (k + 1))
+
+-- next holds the vertices that can be pushed on such a stack: any that is left, if it is empty, else those to which an edge leads from
+-- its last vertex
+pub record Ahead (s : List ℕ) (left : ℕ) (l : List ℕ) (d next : ℕ) : Type 0 where
+  pub first : d ≡ 0 → next ≡ left
+  pub later : (k : ℕ) → d ≡ k + 1 → next ≡ bitAnd (rowAt s (vertexAt l k)) left
+
+-- the first d entries of l are a stack on which no vertex can be pushed; or d is 0, and there is a cycle
+pub record Descended (n : ℕ) (s : List ℕ) (left d : ℕ) (l : List ℕ) : Type 0 where
+  pub stack : 0 < d → Stack n s left l d
+  pub ends : (k : ℕ) → d ≡ k + 1 → Free s left (vertexAt l k)
+  pub cycle : d ≡ 0 → Cycle n (edgeAt s)
+
+-- ---- what is found
 
 -- l holds every vertex, each after those to which its edges lead
 pub record Ordered (n : ℕ) (s l : List ℕ) : Type 0 where

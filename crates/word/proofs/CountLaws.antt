@@ -9,15 +9,15 @@ use native.Mathlib.Decide.{ℕ-discrete}
 use native.Mathlib.Omega.{arith}
 use lib.Arith.{lt-one}
 use lib.Pow.{pow-pos, pow-mono, shr-lt, split, ones-lt}
-use lib.Count.{ones, ones-cat, ones-ones, trailingZeros}
+use lib.Count.{ones, ones-cat, ones-ones, trailingZeros, leadingZeros, leading-top}
 use Rattle.sums.specs.Sum.{sum, delta}
 use Rattle.sums.specs.Modulo.{Congruent}
 use Rattle.sums.proofs.ModuloLaws.{congruent-add, congruent-cancel}
 use Rattle.sums.proofs.SumLaws.{delta-refl, delta-diff, sum-cong, sum-add, sum-all-zero, sum-pick, sum-far, term-le}
-use Rattle.word.specs.Bit.{bit, withoutBit, bitCount, Lowest, LowestCleared}
+use Rattle.word.specs.Bit.{bit, withoutBit, bitCount, Lowest, Highest, LowestCleared}
 use Rattle.word.specs.Wrap.{minus}
 use Rattle.word.proofs.WrapLaws.{minus-lt, minus-add}
-use Rattle.word.proofs.BitLaws.{bit-lt, bit-cases, bit-zero, bit-half, bit-mod, bit-clear-same, bit-clear-other, clear-below, clear-lt, half-lt, bit-above-zero, bit-one-lt}
+use Rattle.word.proofs.BitLaws.{bit-lt, bit-cases, bit-zero, bit-half, bit-mod, bit-clear-same, bit-clear-other, clear-below, clear-lt, half-lt, bit-above-zero, bit-one-lt, bit-beyond}
 
 -- ---- a sum over the set bits, where one bit is cleared, and where none is left
 
@@ -112,6 +112,18 @@ trailing-lowest (suc k) x p h =
 
 pub lowest-trailing : (x : ℕ) → 0 < x → x < 2 ^ 64 → Lowest x (trailingZeros 64 x)
 lowest-trailing x p h = let t = trailing-lowest 64 x p h in record { within = t .0; set = t .1; least = t .2 }
+
+-- below the leading zeros stands a set bit, and none is above it
+pub highest-leading : (x : ℕ) → 0 < x → x < 2 ^ 64 → Highest x (63 - leadingZeros 64 x)
+highest-leading x p h =
+    let t = leading-top 64 x p h in
+    let b = bit-beyond (t .0) x (t .2) in
+    let e : 63 - leadingZeros 64 x ≡ b .0 = omega (arith, t .1, b .1, bit-one-lt _ x (b .0) (t .3) (b .2)) in
+    record {
+      within = omega arith;
+      set = rw e (b .2);
+      greatest = λ k l. elim (bit-cases x k) [ inl z ↦ z | inr o ↦ absurd (omega (arith, t .1, bit-one-lt _ x k (t .3) o)) ];
+    }
 
 -- the lowest bit of a number of n digits is one of them
 pub lowest-lt : (n x b : ℕ) → Lowest x b → x < 2 ^ n → b < n

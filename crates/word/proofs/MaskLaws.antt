@@ -1,6 +1,6 @@
 -- The laws of masks: powers of 2, words of set bits, what is common to two words, and what the code's masks give. Assumes nothing.
 use mathlib.Core.Path.{_≡_, sym, ap, _∙_}
-use mathlib.Core.Logic.{⊎-elim}
+use mathlib.Core.Logic.{inl, inr, ⊎-elim}
 use mathlib.Core.Bool.{true}
 use Prim.Native.Nat.{ℕ, zero, suc, _+_, _-_, _*_, _/_, _%_, _^_, _≤_, _<_}
 use native.Mathlib.Nat.{mod-eq-of-lt, mul-zero, one-mul, mul-one, pow-suc, sub-zero, lt-of-le-of-lt, lt-of-lt-of-le, div-eq-of-lt}
@@ -53,6 +53,14 @@ bit-and x y j =
     (λ e. omega (arith, and-step (x / 2 ^ j) (y / 2 ^ j), ap (λ b. b * bit y j) e))
     (λ e. omega (arith, and-step (x / 2 ^ j) (y / 2 ^ j), ap (λ b. b * bit y j) e))
     (bit-cases x j)
+
+-- a bit that two words have in common is a bit of each
+pub and-both : (x y j : ℕ) → bit (bitAnd x y) j ≡ 1 → (bit x j ≡ 1) × (bit y j ≡ 1)
+and-both x y j h =
+    elim (bit-cases x j) [
+      | inl z ↦ absurd (omega (arith, bit-and x y j, ap (λ a. a * bit y j) z))
+      | inr o ↦ (o, omega (arith, bit-and x y j, ap (λ a. a * bit y j) o))
+    ]
 
 -- the bits of x below n
 pub bit-below : (x n j : ℕ) → j < n → bit (bitAnd x (2 ^ n - 1)) j ≡ bit x j

@@ -1,5 +1,5 @@
 -- The bits of a word, by division: one bit, a word with one bit set or cleared, the word of given bits, how many are set, the lowest
--- that is set, and a word without it.
+-- and the highest that is set, and a word without the lowest.
 -- Definitions only. Assumes nothing.
 use mathlib.Core.Path.{_≡_}
 use mathlib.Core.Bool.{Bool}
@@ -36,6 +36,12 @@ pub record Lowest (x r : ℕ) : Type 0 where
   pub within : r < 64
   pub set : bit x r ≡ 1
   pub least : (k : ℕ) → k < r → bit x k ≡ 0
+
+-- r is the place of the highest bit of x that is set
+pub record Highest (x r : ℕ) : Type 0 where
+  pub within : r < 64
+  pub set : bit x r ≡ 1
+  pub greatest : (k : ℕ) → r < k → bit x k ≡ 0
 
 -- r is x with the lowest bit that is set cleared
 abbrev pub LowestCleared : ℕ → ℕ → Type 0

@@ -2,7 +2,7 @@
 ghost use mathlib.Core.Path.{_≡_};
 ghost use Prim.Native.Nat.{_+_, _-_, _*_, _≤_, _<_, _%_, _^_};
 ghost use lib.Dec.{ltb};
-ghost use Rattle.word.specs.Bit.{hasBit, withBit, withoutBit, bitCount, Lowest, LowestCleared};
+ghost use Rattle.word.specs.Bit.{hasBit, withBit, withoutBit, bitCount, Lowest, Highest, LowestCleared};
 ghost use Rattle.word.specs.Wrap.{minus};
 
 // Internal: whether bit j of row is set.
@@ -63,6 +63,14 @@ pub fn lowest_bit(mask: u64) -> usize
     ensures { λ r. ⌜ Lowest mask r ⌝ }
 {
     u64::trailing_zeros(mask) as usize
+}
+
+// Internal: the place of the highest bit of mask that is set. The mask is not 0.
+pub fn highest_bit(mask: u64) -> usize
+    requires { ⌜ 0 < mask ⌝ }
+    ensures { λ r. ⌜ Highest mask r ⌝ }
+{
+    (63 - u64::leading_zeros(mask)) as usize
 }
 
 // Internal: mask with its lowest set bit cleared. The mask is not 0.
