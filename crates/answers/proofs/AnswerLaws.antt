@@ -29,3 +29,11 @@ module _ (k m : ℕ) (e : k ≡ m) where
 
   pub answered-accepted : (v : ℕ) (r : Answer) → k ≡ 0 → r ≡ answer 0 0 v → r ≡ answered m v
   answered-accepted v r z er = er ∙ ap (λ (x : ℕ). answered x v) (sym z ∙ e)
+
+-- ---- the first of two numbers that refuses: k, or where that is 0 then j
+
+pub first-refuses : (k j : ℕ) → (k ≡ 0 → ⊥) → k ≡ decided k j k
+first-refuses k j d = sym (decided-old k j k d)
+
+pub first-then : (k j : ℕ) → k ≡ 0 → j ≡ decided k j k
+first-then k j z = rw z refl

@@ -3,6 +3,7 @@ pub mod Refusals
 pub mod AnyWords
 pub mod OneEdit
 pub mod EmptyMasks
+pub mod MayLaws
 pub mod TestLaws
 pub mod NamedLaws
 pub mod ConditionLaws

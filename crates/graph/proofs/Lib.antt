@@ -1,4 +1,5 @@
 pub mod Lists
+pub mod AscendingLaws
 pub mod Pigeon
 pub mod Walks
 pub mod Deep

@@ -17,26 +17,16 @@ use Rattle.sheet_theory.proofs.Meaning.{valid-edges-le}
 use Rattle.plan_theory.specs.PlanOf.{planOf}
 use Rattle.plan_theory.specs.Calls.{BadPlan, lengthNumber, readConditions, readAnswer, ReadPlan, ShortBuffer, writeConditions, WritePlan}
 use Rattle.recount.specs.Internal.{SheetNumber}
-use Rattle.recount.proofs.ValidateLaws.{valid-stops, valid-of, valid-passes}
+use Rattle.recount.proofs.ValidateLaws.{valid-stops, valid-of, valid-passes, valid-then}
 use Rattle.plan.specs.Internal.{ReadNumber, AppliedAll}
 use Rattle.sheet_theory.proofs.ValidLaws.{accepted-valid}
 use Rattle.plan_theory.proofs.PlanOfLaws.{plan-length}
 use Rattle.plan_theory.proofs.LengthLaws.{length-first}
 
--- ---- first, and read_number
-
-pub first-refuses : (k j : ℕ) → (k ≡ 0 → ⊥) → k ≡ decided k j k
-first-refuses k j d = sym (decided-old k j k d)
-
-pub first-then : (k j : ℕ) → k ≡ 0 → j ≡ decided k j k
-first-then k j z = rw z refl
+-- ---- read_number
 
 pub read-first : (n : ℕ) (s plan : List ℕ) (k j r : ℕ) → SheetNumber n s k → j ≡ lengthNumber (length plan) → r ≡ decided k j k → ReadNumber n s plan r
-read-first n s plan k j r h ej er = rw (er, ej) (go k h)
-  where
-    go : (k : ℕ) → SheetNumber n s k → ReadNumber n s plan (decided k (lengthNumber (length plan)) k)
-    go zero h = valid-passes n s (BadPlan plan gives 13 ∷ []) 0 h refl (lengthNumber (length plan)) (length-first plan)
-    go (suc k) h = valid-stops n s (BadPlan plan gives 13 ∷ []) (suc k) h (λ z. omega (arith, z))
+read-first n s plan k j r h ej er = rw (er, ej) (valid-then n s (BadPlan plan gives 13 ∷ []) k h (lengthNumber (length plan)) (length-first plan))
 
 -- ---- read_plan
 

@@ -1,6 +1,5 @@
 // The checks that come before a plan is read.
 ghost use mathlib.Core.Path.{_≡_};
-ghost use Rattle.answers.specs.Answers.{decided};
 ghost use Rattle.plan_theory.specs.Calls.{lengthNumber};
 ghost use Rattle.plan.specs.Internal.{ReadNumber};
 use sheet::Refusal;
@@ -21,21 +20,11 @@ fn length_number(bytes: usize) -> u64
     0
 }
 
-// The first of two numbers that refuses, or 0.
-fn first(number: u64, then: u64) -> u64
-    ensures { λ r. ⌜ r ≡ decided number then number ⌝ }
-{
-    if number != 0 {
-        return number;
-    }
-    then
-}
-
 // The number by which a sheet or the length of a plan is refused, before a record is read: 1, 2, 9, 13; or 0.
 pub(crate) fn read_number(n: usize, sheet: &[u64], plan: &[u8]) -> u64
     ensures { λ r. ⌜ ReadNumber n (now (sheet .entry)) (now (plan .entry)) r ⌝ }
 {
     let of_sheet = recount::sheet_number(n, sheet);
     let of_length = length_number(plan.len());
-    first(of_sheet, of_length)
+    sheet::checks::first(of_sheet, of_length)
 }

@@ -15,7 +15,7 @@ use Rattle.edit_theory.specs.Edit.{insertEdge, deleteEdge}
 use Rattle.edit_theory.specs.Model.{Model, modelConditions}
 use Rattle.edit_theory.proofs.NamedLaws.{some-one}
 use Rattle.plan_theory.specs.Taken.{RecordNumber, Stops, Closing, ClosesAt}
-use Rattle.plan_theory.proofs.EffectLaws.{edge-effects, insert-first}
+use Rattle.edit_theory.proofs.MayLaws.{edge-effects, insert-first}
 use Rattle.plan_theory.proofs.AppliedLaws.{taken-vertices}
 
 module _ (m : Model) (u v : ℕ) where

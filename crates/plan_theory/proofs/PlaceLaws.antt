@@ -17,7 +17,7 @@ use Rattle.edit_theory.specs.Model.{Model, modelConditions}
 use Rattle.plan_theory.specs.Records.{records}
 use Rattle.plan_theory.specs.Taken.{RecordNumber, Stops}
 use Rattle.plan_theory.proofs.RecordsLaws.{records-split}
-use Rattle.plan_theory.proofs.EffectLaws.{edge-effects}
+use Rattle.edit_theory.proofs.MayLaws.{edge-effects}
 
 -- no edit of one edge has this number
 edit-never : (m : Model) (inserts : Bool) (u v : ℕ) → ¬ (First (modelConditions m (edgeEdit inserts (m .vertices) u v)) 14)

@@ -26,7 +26,7 @@ use Rattle.sheet_theory.proofs.Meaning.{valid-edges-le}
 use Rattle.edit_theory.specs.Model.{opened, edgeCount}
 use Rattle.edit_theory.proofs.FreshLaws.{valid-modelled, fresh-value}
 use Rattle.plan_theory.specs.Records.{records}
-use Rattle.plan_theory.specs.PlanOf.{edgeInsert, rowInserts, edgeRecords, edgeBytes, planOf, fromOf, toOf}
+use Rattle.plan_theory.specs.PlanOf.{edgeInsert, rowInserts, edgeRecords, edgeBytes, planOf, edgeOf}
 use Rattle.plan_theory.specs.Calls.{mostBytes}
 use Rattle.plan_theory.proofs.RecordsLaws.{firstRecords, records-first}
 
@@ -65,8 +65,8 @@ edge-records-of n s x m =
     (r .0, r .1, q .0, q .1, p .0, p .1)
 
 pub insert-only : (u v i j : ℕ) → Insert u v ≡ Insert i j → (u ≡ i) × (v ≡ j)
-unfolding fromOf toOf
-insert-only u v i j e = (ap fromOf e, ap toOf e)
+unfolding edgeOf
+insert-only u v i j e = (ap (λ (x : Record). edgeOf x .0) e, ap (λ (x : Record). edgeOf x .1) e)
 
 -- and each edge is one of them
 said-in : (s : List ℕ) (i j : ℕ) → edgeAt s i j ≡ 1 → Insert i j isIn edgeInsert s i j

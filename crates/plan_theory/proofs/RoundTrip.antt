@@ -28,7 +28,8 @@ use Rattle.plan_theory.specs.Records.{numberOn, leftBy, Applied, applied
 use Rattle.plan_theory.specs.PlanOf.{edgeRecords, planOf}
 use Rattle.plan_theory.specs.Calls.{BadPlan, readConditions, appliedPlan, appliedAnswer, ReadPlan, ShortBuffer, WritePlan}
 use Rattle.plan_theory.proofs.Meaning.{write-taken}
-use Rattle.plan_theory.proofs.EffectLaws.{with, with-cases, insert-first}
+use Rattle.edit_theory.proofs.MayLaws.{insert-first}
+use Rattle.plan_theory.proofs.EffectLaws.{with, with-cases}
 use Rattle.plan_theory.proofs.OrderLaws.{edge-records-distinct}
 use Rattle.plan_theory.proofs.AppliedLaws.{applied-next}
 use Rattle.plan_theory.proofs.PlanOfLaws.{edge-records-iff, edge-records-of, insert-only, plan-records, plan-short}

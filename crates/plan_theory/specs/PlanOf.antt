@@ -1,13 +1,11 @@
--- The plan of a sheet: its edges as records, ascending by from, then to, and their bytes; and what ascending means. Definitions only.
+-- The plan of a sheet: its edges as records, ascending by from, then to, and their bytes; and the order of records. Definitions only.
 -- Assumes nothing.
-use mathlib.Core.Path.{_≡_}
-use mathlib.Core.Logic.{_⊎_}
 use mathlib.Core.Bool.{cond}
 use mathlib.Core.List.{List, [], _∷_}
-use Prim.Native.Nat.{ℕ, _<_}
+use Prim.Native.Nat.{ℕ}
 use Rattle.word.specs.Bit.{hasBit}
 use Rattle.sums.specs.Gather.{gather}
-use Rattle.graph.specs.Graph.{_isIn_}
+use Rattle.graph.specs.Ascending.{EdgeLower}
 use Rattle.record.specs.declared.Record.{Record}
 use Rattle.record.specs.declared.Record.the-variants.{Insert, Delete, Malformed}
 use Rattle.record.specs.Record.{insertLetter, encoded}
@@ -40,21 +38,11 @@ planOf n s = gather n (rowBytes n s)
 -- ---- ascending
 
 -- the vertices that a record's edge runs from and to; a malformed record has no edge, and 0 stands for both
-unfoldable pub fromOf : Record → ℕ
-fromOf (Insert u v) = u
-fromOf (Delete u v) = u
-fromOf Malformed = 0
-
-unfoldable pub toOf : Record → ℕ
-toOf (Insert u v) = v
-toOf (Delete u v) = v
-toOf Malformed = 0
+unfoldable pub edgeOf : Record → ℕ × ℕ
+edgeOf (Insert u v) = (u, v)
+edgeOf (Delete u v) = (u, v)
+edgeOf Malformed = (0, 0)
 
 -- x comes before y: by from, then by to
 abbrev pub Lower : Record → Record → Type 0
-Lower x y = (fromOf x < fromOf y) ⊎ ((fromOf x ≡ fromOf y) × (toOf x < toOf y))
-
--- each comes before all that stand after it
-abbrev pub Ascending : List Record → Type 0
-Ascending [] = Unit {0}
-Ascending (x ∷ l) = ((y : Record) → y isIn l → Lower x y) × Ascending l
+Lower x y = EdgeLower (edgeOf x) (edgeOf y)

@@ -4,18 +4,19 @@ use mathlib.Core.Path.{_≡_, refl}
 use mathlib.Core.Logic.{inl, inr}
 use mathlib.Core.Bool.{Bool, true, false}
 use mathlib.Core.List.{List, [], _∷_}
-use Prim.Native.Nat.{ℕ, _<_}
+use Prim.Native.Nat.{ℕ, zero, suc, _<_}
+use native.Mathlib.Omega.{arith}
 use lib.ListN.{length}
 use Rattle.sheet_theory.specs.Layout.{Shape}
 use Rattle.answers.specs.Table.{_gives_, Conditions, First, Reflects}
-use Rattle.sheet_theory.specs.Conditions.{StrayRow, sized}
+use Rattle.sheet_theory.specs.Conditions.{StrayRow, vertexConditions, sized}
 use Rattle.sheet_theory.specs.Valid.{Valid, validConditions}
-use Rattle.sheet_theory.specs.Internal.{RowHolds, shapeNumber}
+use Rattle.sheet_theory.specs.Internal.{RowHolds, shapeNumber, vertexNumber}
 use Rattle.answers.specs.declared.Answer.{Answer}
-use Rattle.answers.specs.Answers.{answer}
+use Rattle.answers.specs.Answers.{answer, decided}
 use Rattle.answers.proofs.TableLaws.{reflects-none, reflects-false, reflects-iff, first-only, first-more}
 use Rattle.sheet_theory.proofs.ValidLaws.{valid-iff-holds, accepted-valid, valid-passed}
-use Rattle.sheet_theory.proofs.ShapeLaws.{shape-of, shape-refused, shape-passed}
+use Rattle.sheet_theory.proofs.ShapeLaws.{shape-of, shape-refused, shape-passed, vertex-first}
 use Rattle.recount.specs.Internal.{SheetNumber}
 use Rattle.order.specs.Internal.{OrderFound}
 use Rattle.recount_theory.specs.Calls.{Validate}
@@ -79,3 +80,13 @@ module _ (n : ℕ) (s : List ℕ) (l : Conditions) (k : ℕ) (h : SheetNumber n 
 
   pub valid-passes : k ≡ 0 → (j : ℕ) → First l j → First (validConditions n s l) j
   valid-passes z = valid-passed n s (valid-of z) l
+
+-- what the checks of the sheet give, and where that is 0 what the further conditions give
+pub valid-then : (n : ℕ) (s : List ℕ) (l : Conditions) (k : ℕ) → SheetNumber n s k → (j : ℕ) → First l j → First (validConditions n s l) (decided k j k)
+valid-then n s l zero h j f = valid-passes n s l 0 h refl j f
+valid-then n s l (suc k) h j f = valid-stops n s l (suc k) h (λ z. omega (arith, z))
+
+-- two vertices named
+pub valid-vertices-first : (n : ℕ) (s : List ℕ) (i j k : ℕ) → SheetNumber n s k
+    → First (validConditions n s (vertexConditions n i j [])) (decided k (vertexNumber n i j) k)
+valid-vertices-first n s i j k h = valid-then n s (vertexConditions n i j []) k h (vertexNumber n i j) (vertex-first n i j)

@@ -1,9 +1,10 @@
 // The checks that calls share.
 ghost use mathlib.Core.Path.{_≡_};
 ghost use Rattle.answers.specs.Table.{Reflects};
+ghost use Rattle.answers.specs.Answers.{decided};
 ghost use Rattle.sheet_theory.specs.Layout.{Shape};
 ghost use Rattle.sheet_theory.specs.Conditions.{StrayRow};
-ghost use Rattle.sheet_theory.specs.Internal.{shapeNumber, verticesNumber};
+ghost use Rattle.sheet_theory.specs.Internal.{shapeNumber, vertexNumber, verticesNumber};
 use crate::layout;
 use crate::layout::Sheet;
 use answers::Refusal;
@@ -24,14 +25,10 @@ pub fn shape_number(n: usize, words: usize) -> u64
     0
 }
 
-// Internal: as shape_number, and then 3 if one of the vertices i and j is n or more.
-pub fn vertices_number(n: usize, words: usize, i: usize, j: usize) -> u64
-    ensures { λ r. ⌜ r ≡ verticesNumber n words i j ⌝ }
+// Internal: 3 if one of the vertices i and j is n or more, else 0.
+pub fn vertex_number(n: usize, i: usize, j: usize) -> u64
+    ensures { λ r. ⌜ r ≡ vertexNumber n i j ⌝ }
 {
-    let number = shape_number(n, words);
-    if number != 0 {
-        return number;
-    }
     if n <= i {
         return Refusal::VERTEX;
     }
@@ -39,6 +36,27 @@ pub fn vertices_number(n: usize, words: usize, i: usize, j: usize) -> u64
         return Refusal::VERTEX;
     }
     0
+}
+
+// Internal: as shape_number, and then as vertex_number.
+pub fn vertices_number(n: usize, words: usize, i: usize, j: usize) -> u64
+    ensures { λ r. ⌜ r ≡ verticesNumber n words i j ⌝ }
+{
+    let number = shape_number(n, words);
+    if number != 0 {
+        return number;
+    }
+    vertex_number(n, i, j)
+}
+
+// Internal: the first of two numbers that refuses, or 0.
+pub fn first(number: u64, then: u64) -> u64
+    ensures { λ r. ⌜ r ≡ decided number then number ⌝ }
+{
+    if number != 0 {
+        return number;
+    }
+    then
 }
 
 // Internal: whether a row has a bit at n or above.

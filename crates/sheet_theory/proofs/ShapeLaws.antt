@@ -8,12 +8,12 @@ use Prim.Native.Nat.{ℕ, _≤_, _<_}
 use native.Mathlib.Nat.{lt-of-not-le}
 use native.Mathlib.Decide.{decLt, ℕ-discrete}
 use native.Mathlib.Omega.{arith}
-use lib.Dec.{ltb}
+use lib.Dec.{ltb, leb}
 use lib.ListN.{length}
 use Rattle.answers.specs.Table.{Conditions, First, Tests, firstTrue, Reflects}
 use Rattle.sheet_theory.specs.Layout.{Shape, size}
 use Rattle.sheet_theory.specs.Conditions.{BadVertices, BadLength, vertexConditions, vertexTests, sized, sizedTests}
-use Rattle.sheet_theory.specs.Internal.{shapeNumber, verticesNumber}
+use Rattle.sheet_theory.specs.Internal.{shapeNumber, vertexNumber, verticesNumber}
 use Rattle.answers.proofs.TableLaws.{Agree, reflects-or, reflects-not, reflects-lt, reflects-le, reflects-eq, reflects-false}
 use Rattle.answers.proofs.TableLaws.{first-true, first-past, first-rest, first-more, first-here, first-next, first-none, first-stops, first-passes}
 
@@ -104,25 +104,30 @@ vertices-first n s i j =
     first-true (sized n s (vertexConditions n i j [])) (sizedTests n (length s) (vertexTests n i j []))
     (sized-agree n s (vertexConditions n i j []) (vertexTests n i j []) (λ h. vertices-agree n i j [] [] tt))
 
--- the ways out of `vertices_number`: k is what the check of the shape gave
+pub vertex-first : (n i j : ℕ) → First (vertexConditions n i j []) (vertexNumber n i j)
+vertex-first n i j = first-true (vertexConditions n i j []) (vertexTests n i j []) (vertices-agree n i j [] [] tt)
+
+-- the ways out of `vertex_number`
+module _ (n i j : ℕ) where
+  vertex-test : Reflects (leb n i || leb n j) ((n ≤ i) ⊎ (n ≤ j))
+  vertex-test = reflects-or (reflects-le n i) (reflects-le n j)
+
+  pub vertex-from : n ≤ i → 3 ≡ vertexNumber n i j
+  vertex-from h = sym (first-here _ _ (vertex-test .shows (inl h)))
+
+  pub vertex-to : n ≤ j → 3 ≡ vertexNumber n i j
+  vertex-to h = sym (first-here _ _ (vertex-test .shows (inr h)))
+
+  pub vertex-good : i < n → j < n → 0 ≡ vertexNumber n i j
+  vertex-good hi hj = sym (first-next _ _ (reflects-false vertex-test .1 (λ c. elim c [ inl l ↦ omega arith | inr l ↦ omega arith ])) ∙ first-none)
+
+-- the ways out of `vertices_number`: k is what the check of the shape gave, and v what that of the vertices gave
 module _ (n len k : ℕ) (e : k ≡ shapeNumber n len) (i j : ℕ) where
   pub vertices-stops : (k ≡ 0 → ⊥) → k ≡ verticesNumber n len i j
   vertices-stops d = sym (sized-stops n len k e (vertexTests n i j []) d)
 
-  no-vertex : k ≡ 0 → ((n ≤ i) ⊎ (n ≤ j)) → 3 ≡ verticesNumber n len i j
-  no-vertex z h = sym (sized-passes n len k e (vertexTests n i j []) z ∙ first-here _ _ (reflects-or (reflects-le n i) (reflects-le n j) .shows h))
-
-  pub vertices-from : k ≡ 0 → n ≤ i → 3 ≡ verticesNumber n len i j
-  vertices-from z h = no-vertex z (inl h)
-
-  pub vertices-to : k ≡ 0 → n ≤ j → 3 ≡ verticesNumber n len i j
-  vertices-to z h = no-vertex z (inr h)
-
-  pub vertices-good : k ≡ 0 → i < n → j < n → 0 ≡ verticesNumber n len i j
-  vertices-good z hi hj =
-      sym (sized-passes n len k e (vertexTests n i j []) z
-      ∙ first-next _ _ (reflects-false (reflects-or (reflects-le n i) (reflects-le n j)) .1 (λ c. elim c [ inl l ↦ omega arith | inr l ↦ omega arith ]))
-      ∙ first-none)
+  pub vertices-then : (v : ℕ) → k ≡ 0 → v ≡ vertexNumber n i j → v ≡ verticesNumber n len i j
+  vertices-then v z ev = ev ∙ sym (sized-passes n len k e (vertexTests n i j []) z)
 
 -- 0 says that the sheet has the shape and both vertices
 module _ (n : ℕ) (s : List ℕ) (i j k : ℕ) (e : k ≡ verticesNumber n (length s) i j) (z : k ≡ 0) where

@@ -12,7 +12,11 @@ use Rattle.sheet_theory.specs.Conditions.{vertexTests, sizedTests}
 abbrev pub shapeNumber : ℕ → ℕ → ℕ
 shapeNumber n len = firstTrue (sizedTests n len [])
 
--- the same, with 3 for a vertex i or j that there is not
+-- the number that two vertices give: 3 if there is no i or no j, else 0
+abbrev pub vertexNumber : ℕ → ℕ → ℕ → ℕ
+vertexNumber n i j = firstTrue (vertexTests n i j [])
+
+-- that of the shape, and then that of two vertices
 abbrev pub verticesNumber : ℕ → ℕ → ℕ → ℕ → ℕ
 verticesNumber n len i j = firstTrue (sizedTests n len (vertexTests n i j []))
 

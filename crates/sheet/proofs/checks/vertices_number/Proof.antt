@@ -1,6 +1,6 @@
 -- `sheet::checks::vertices_number` meets its contract: each way out is a law of ShapeLaws. Assumes nothing.
 use borrow.Author.Needs.{needs}
-use Rattle.sheet_theory.proofs.ShapeLaws.{vertices-stops, vertices-from, vertices-to, vertices-good}
+use Rattle.sheet_theory.proofs.ShapeLaws.{vertices-stops, vertices-then}
 use Rattle.sheet.proofs.checks.vertices_number.Statement.{statement}
 use Rattle.sheet.proofs.checks.vertices_number.Tie as tie
 
@@ -8,13 +8,7 @@ returns : tie.Need-returns
 returns c = search vertices-stops
 
 returns-2 : tie.Need-returns-2
-returns-2 c = search vertices-from
-
-returns-3 : tie.Need-returns-3
-returns-3 c = search vertices-to
-
-returns-4 : tie.Need-returns-4
-returns-4 c = search vertices-good
+returns-2 c = search vertices-then
 
 pub vertices-number-spec : {M : Type 1} → statement M
-vertices-number-spec = tie.close (tie.spec (λ c κs. search needs) returns returns-2 returns-3 returns-4)
+vertices-number-spec = tie.close (tie.spec (λ c κs. search needs) returns (λ c κs. search needs) returns-2)
