@@ -18,17 +18,21 @@ use sheet::Sheet;
 // Internal: the columns of a block, whose counts are worked out together: so many that their sums fit in registers.
 pub const COLUMNS: usize = 16;
 
-// 32 words: 1 at place 16, and 0 at every other.
-fn unit_words() -> [u64; 32]
+// The length of `unit_words`: its windows of COLUMNS words have the 1 at any of their places.
+const UNIT_WORDS: usize = 2 * COLUMNS;
+
+// An array whose middle word is 1 and whose other words are 0. The path from i to itself is added to the sums of the block from c on as the
+// window of COLUMNS words that begins at COLUMNS + c - i. Writing to the place i - c would spill the sums to memory.
+fn unit_words() -> [u64; UNIT_WORDS]
     ensures { λ r. ⌜ UnitWords r ⌝ }
 {
-    let mut unit = [0u64; 32];
+    let mut unit = [0u64; UNIT_WORDS];
     unit[COLUMNS] = 1;
     unit
 }
 
 // The path from i to itself, added to the counts from i to the columns from c on.
-fn add_own(unit: &[u64; 32], i: usize, c: usize, t: &mut [u64; COLUMNS])
+fn add_own(unit: &[u64; UNIT_WORDS], i: usize, c: usize, t: &mut [u64; COLUMNS])
     requires { ⌜ (UnitWords (now unit)) × (i < 64) × (c < 64) × (length (now t) ≡ columns) ⌝ }
     ensures { λ r. ⌜ OwnBy plus i c (now (t .entry)) (now (t .exit)) ⌝ }
 {
@@ -61,7 +65,7 @@ fn sum_block(n: usize, sheet: &[u64], mask: u64, c: usize) -> [u64; COLUMNS]
 fn count_block(
     n: usize,
     sheet: &[u64],
-    unit: &[u64; 32],
+    unit: &[u64; UNIT_WORDS],
     i: usize,
     mask: u64,
     c: usize,
@@ -104,7 +108,7 @@ fn block_at(n: usize, c: usize) -> usize
 }
 
 // The counts from i to the columns from c on, written.
-fn fill_part(n: usize, sheet: &mut [u64], unit: &[u64; 32], i: usize, mask: u64, c: usize)
+fn fill_part(n: usize, sheet: &mut [u64], unit: &[u64; UNIT_WORDS], i: usize, mask: u64, c: usize)
     requires { ⌜ (BlockReady n (now sheet) (now unit) c) × (i < n) × (mask < 2 ^ n) ⌝ }
     ensures { λ r. ⌜ PartFilled n (now (sheet .entry)) i mask c (now (sheet .exit)) ⌝ }
 {
@@ -117,7 +121,7 @@ fn fill_block(
     n: usize,
     sheet: &mut [u64],
     order: &[usize; Sheet::VERTICES],
-    unit: &[u64; 32],
+    unit: &[u64; UNIT_WORDS],
     c: usize,
 )
     requires { ⌜ (BlockReady n (now sheet) (now unit) c) × (RowsBelow n (now sheet)) × (Ordered n (now sheet) (now order)) ⌝ }
@@ -160,7 +164,7 @@ fn take_row(n: usize, words: &[u64], base: usize, t: &mut [u64])
 }
 
 // The path from i to itself, taken off the counts from i to the columns from c on.
-fn take_own(unit: &[u64; 32], i: usize, c: usize, t: &mut [u64; COLUMNS])
+fn take_own(unit: &[u64; UNIT_WORDS], i: usize, c: usize, t: &mut [u64; COLUMNS])
     requires { ⌜ (UnitWords (now unit)) × (i < 64) × (c < 64) × (length (now t) ≡ columns) ⌝ }
     ensures { λ r. ⌜ OwnBy minus i c (now (t .entry)) (now (t .exit)) ⌝ }
 {
@@ -188,7 +192,14 @@ fn take_rows(n: usize, sheet: &[u64], mask: u64, c: usize, t: &mut [u64; COLUMNS
 
 // Whether the counts from i to the columns from c on are those that the recurrence gives, if the edges from i lead to the vertices of
 // the mask: whether nothing is left of them once these are taken off.
-fn part_holds(n: usize, sheet: &[u64], unit: &[u64; 32], i: usize, mask: u64, c: usize) -> bool
+fn part_holds(
+    n: usize,
+    sheet: &[u64],
+    unit: &[u64; UNIT_WORDS],
+    i: usize,
+    mask: u64,
+    c: usize,
+) -> bool
     requires { ⌜ (BlockReady n (now sheet) (now unit) c) × (i < n) × (mask < 2 ^ n) ⌝ }
     ensures { λ r. ⌜ Reflects r (PartHolds n (now (sheet .entry)) i mask c) ⌝ }
 {
@@ -205,7 +216,7 @@ fn block_holds(
     n: usize,
     sheet: &[u64],
     order: &[usize; Sheet::VERTICES],
-    unit: &[u64; 32],
+    unit: &[u64; UNIT_WORDS],
     c: usize,
 ) -> bool
     requires { ⌜ (BlockReady n (now sheet) (now unit) c) × (RowsBelow n (now sheet)) × (Ordered n (now sheet) (now order)) ⌝ }

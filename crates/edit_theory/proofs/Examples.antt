@@ -3,15 +3,15 @@
 use mathlib.Core.Path.{_≡_, refl}
 use mathlib.Core.List.{[], _∷_}
 use Rattle.sums.specs.Sum.{sum}
-use Rattle.word.specs.Bit.{bitCount, ofBits}
+use Rattle.word.specs.Bit.{ofBits}
 use Rattle.word.specs.Wrap.{minus}
 use Rattle.graph.specs.Update.{fromSum, toSum}
 use Rattle.answers.specs.Table.{firstTrue}
 use Rattle.answers.specs.Answers.{answer}
-use Rattle.sheet_theory.specs.Layout.{setBits, build, redoneWord, redone}
+use Rattle.sheet_theory.specs.Layout.{build, redoneWord, redone}
 use Rattle.sheet_theory.proofs.Examples.{D}
-use Rattle.edit_theory.specs.Edit.{insertEdge, deleteEdge, insertEdgesAt, deleteEdgesAt}
-use Rattle.edit_theory.specs.Outcome.{some, someEdge, closes, editedRow, editedBy, editedCount, edited, editAnswer, editAfter}
+use Rattle.edit_theory.specs.Edit.{insertEdge, insertEdgesAt, deleteEdgesAt}
+use Rattle.edit_theory.specs.Outcome.{some, someEdge, editedRow, editedBy, editedCount, edited, editAnswer, editAfter}
 
 -- each number, with the condition of the next one true as well where there is one
 pub other-length : editAnswer (insertEdge 4 4 4) D ≡ answer 2 0 0
@@ -26,22 +26,9 @@ pub stray-into : editAnswer (insertEdgesAt 5 0 33 0) D ≡ answer 4 0 0
 unfolding D firstTrue
 stray-into = refl
 
-pub stray-deleted : editAnswer (deleteEdgesAt 5 0 34 0) D ≡ answer 4 0 0
-unfolding D firstTrue
-stray-deleted = refl
-
 pub present-into : editAnswer (insertEdgesAt 5 1 1 1) D ≡ answer 6 0 0
 unfolding D firstTrue some someEdge
 present-into = refl
-
-pub absent-edge : editAnswer (deleteEdge 5 1 0) D ≡ answer 7 0 0
-unfolding D firstTrue some someEdge
-absent-edge = refl
-
--- one edge of D deleted
-pub deleted-value : editAnswer (deleteEdge 5 0 1) D ≡ answer 0 0 3
-unfolding D firstTrue some someEdge edited editedRow editedCount editedBy redone redoneWord build ofBits fromSum toSum sum minus setBits bitCount
-deleted-value = refl
 
 -- 5 comes before 6: 0 to 0, with 0 to 1 that is there
 pub loop-first : editAnswer (insertEdgesAt 5 0 1 2) D ≡ answer 5 0 0
@@ -52,16 +39,3 @@ loop-first = refl
 pub struck-once : editAfter (deleteEdgesAt 1 0 1 1) (1 ∷ 5 ∷ []) ≡ 0 ∷ 18446744073709551596 ∷ []
 unfolding firstTrue some someEdge edited editedRow editedCount editedBy redone redoneWord build ofBits fromSum toSum sum minus
 struck-once = refl
-
-pub struck-value : editAnswer (deleteEdgesAt 1 0 1 1) (1 ∷ 5 ∷ []) ≡ answer 0 0 0
-unfolding firstTrue some someEdge edited editedRow editedCount editedBy redone redoneWord build ofBits fromSum toSum sum minus setBits bitCount
-struck-value = refl
-
--- a stray bit is counted in the value and stays
-pub stray-kept : editAfter (insertEdge 2 0 1) (4 ∷ 0 ∷ 1 ∷ 0 ∷ 0 ∷ 1 ∷ []) ≡ 6 ∷ 0 ∷ 1 ∷ 1 ∷ 0 ∷ 1 ∷ []
-unfolding firstTrue some someEdge closes edited editedRow editedCount editedBy redone redoneWord build ofBits fromSum toSum sum
-stray-kept = refl
-
-pub stray-value : editAnswer (insertEdge 2 0 1) (4 ∷ 0 ∷ 1 ∷ 0 ∷ 0 ∷ 1 ∷ []) ≡ answer 0 0 2
-unfolding firstTrue some someEdge closes edited editedRow editedCount editedBy redone redoneWord build ofBits fromSum toSum sum setBits bitCount
-stray-value = refl

@@ -22,19 +22,6 @@ pub diamond-across : pathCount 4 diamond 0 3 ≡ 2
 unfolding diamond pathCount walks sum delta
 diamond-across = refl
 
-pub diamond-back : pathCount 4 diamond 3 0 ≡ 0
-unfolding diamond pathCount walks sum delta
-diamond-back = refl
-
-pub diamond-self : pathCount 4 diamond 1 1 ≡ 1
-unfolding diamond pathCount walks sum delta
-diamond-self = refl
-
--- one of the two paths across uses the edge from 0 to 1
-pub diamond-through : pathCount 4 diamond 0 0 * pathCount 4 diamond 1 3 ≡ 1
-unfolding diamond pathCount walks sum delta
-diamond-through = refl
-
 -- ---- two edges from 0 to 1 and three from 1 to 2: each choice of edges counts
 
 pub parallel : ℕ → ℕ → ℕ

@@ -10,7 +10,7 @@ use Rattle.graph.specs.Update.{fromSum, toSum}
 use Rattle.record.specs.Record.{insertLetter, deleteLetter, encoded, areDigits, decoded}
 use Rattle.answers.specs.Table.{firstTrue}
 use Rattle.answers.specs.Answers.{answer}
-use Rattle.sheet_theory.specs.Layout.{setBits, build, redoneWord, redone, emptySheet}
+use Rattle.sheet_theory.specs.Layout.{setBits, build, redoneWord, redone}
 use Rattle.sheet_theory.proofs.Examples.{D}
 use Rattle.edit_theory.specs.Outcome.{some, someEdge, closes, editedRow, editedBy, editedCount, edited}
 use Rattle.plan_theory.specs.Records.{numberOn, applied}
@@ -34,14 +34,10 @@ pub absent : appliedAnswer 5 (appliedPlan 5 D (T 0 1 ++ (T 0 1 ++ (0 ∷ 0 ∷ 0
 unfolding D gather applied numberOn decoded areDigits firstTrue some someEdge closes edited editedRow editedCount editedBy redone redoneWord build ofBits fromSum toSum sum delta setBits bitCount
 absent = refl
 
--- the plan of D, and D from it
+-- the plan of D
 pub written-so : planOf 5 D ≡ L 0 1 ++ (L 0 2 ++ (L 1 3 ++ L 2 3))
 unfolding D gather edgeBytes
 written-so = refl
-
-pub read-so : appliedPlan 5 (emptySheet 5) (L 0 1 ++ (L 0 2 ++ (L 1 3 ++ L 2 3))) .words ≡ D
-unfolding D gather applied numberOn decoded areDigits firstTrue some someEdge closes edited editedRow editedCount editedBy redone redoneWord build emptySheet ofBits fromSum toSum sum delta
-read-so = refl
 
 -- a byte too few, the greatest length, and one record more
 pub lengths : (lengthNumber 7 ≡ 13) × (lengthNumber 32768 ≡ 0) × (lengthNumber 32776 ≡ 13)

@@ -1,6 +1,6 @@
 -- The records of a sheet's edges ascend by from, then to; so there are no two alike. Assumes nothing.
 use mathlib.Core.Path.{_≡_, sym, ap, _∙_}
-use mathlib.Core.Logic.{inl, inr}
+use mathlib.Core.Logic.{_↔_, inl, inr}
 use mathlib.Core.Bool.{Bool, true, false, cond}
 use mathlib.Core.List.{List, [], _∷_}
 use Prim.Native.Nat.{ℕ}
@@ -9,7 +9,7 @@ use Rattle.word.specs.Bit.{hasBit}
 use Rattle.graph.specs.Graph.{_isIn_, Distinct}
 use Rattle.graph.specs.Ascending.{Ascending}
 use Rattle.graph.proofs.Lists.{gather-of}
-use Rattle.graph.proofs.AscendingLaws.{gather-ascending, ascending-distinct, edge-asym}
+use Rattle.graph.proofs.AscendingLaws.{gather-ascending, ascending-distinct, ascending-only, edge-asym}
 use Rattle.record.specs.declared.Record.{Record}
 use Rattle.record.specs.declared.Record.the-variants.{Insert}
 use Rattle.sheet_theory.specs.Layout.{rowAt}
@@ -53,5 +53,13 @@ edge-records-ascending n s =
 
 -- ---- no edge is said twice
 
+lower-asym : (x y : Record) → Lower x y → ¬ (Lower y x)
+lower-asym x y = edge-asym (edgeOf x) (edgeOf y)
+
 pub edge-records-distinct : (n : ℕ) (s : List ℕ) → Distinct (edgeRecords n s)
-edge-records-distinct n s = ascending-distinct Lower (λ x y. edge-asym (edgeOf x) (edgeOf y)) (edgeRecords n s) (edge-records-ascending n s)
+edge-records-distinct n s = ascending-distinct Lower lower-asym (edgeRecords n s) (edge-records-ascending n s)
+
+-- ---- and no other list of these records ascends
+
+pub edge-records-only : (n : ℕ) (s : List ℕ) (l : List Record) → Ascending Lower l → ((x : Record) → (x isIn l) ↔ (x isIn edgeRecords n s)) → l ≡ edgeRecords n s
+edge-records-only n s l a e = ascending-only Lower lower-asym l (edgeRecords n s) a (edge-records-ascending n s) e

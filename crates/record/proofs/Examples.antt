@@ -3,7 +3,7 @@ use mathlib.Core.Path.{_≡_, refl}
 use mathlib.Core.List.{List, [], _∷_, _++_}
 use Prim.Native.Nat.{ℕ}
 use Rattle.record.specs.declared.Record.the-variants.{Insert, Delete, Malformed}
-use Rattle.record.specs.declared.reader.Reading.the-variants.{Read, End}
+use Rattle.record.specs.declared.reader.Reading.the-variants.{Read}
 use Rattle.record.specs.Record.{areDigits, encoded, insertLetter, deleteLetter, decoded}
 use Rattle.record.specs.Reader.{readingAt}
 
@@ -17,10 +17,6 @@ pub deletes : decoded (84 ∷ 32 ∷ 54 ∷ 51 ∷ 32 ∷ 48 ∷ 55 ∷ 10 ∷ [
 unfolding decoded areDigits
 deletes = refl
 
--- the same, written
-pub written : encoded deleteLetter 63 7 ≡ 84 ∷ 32 ∷ 54 ∷ 51 ∷ 32 ∷ 48 ∷ 55 ∷ 10 ∷ []
-written = refl
-
 -- `L 0: 01`: the byte after `9` is no digit
 pub no-digit : decoded (76 ∷ 32 ∷ 48 ∷ 58 ∷ 32 ∷ 48 ∷ 49 ∷ 10 ∷ []) ≡ Malformed
 unfolding decoded areDigits
@@ -31,11 +27,6 @@ pub small-letter : decoded (108 ∷ 32 ∷ 48 ∷ 48 ∷ 32 ∷ 48 ∷ 49 ∷ 10
 unfolding decoded areDigits
 small-letter = refl
 
--- `L 00 01` without the line feed
-pub seven-bytes : decoded (76 ∷ 32 ∷ 48 ∷ 48 ∷ 32 ∷ 48 ∷ 49 ∷ []) ≡ Malformed
-unfolding decoded
-seven-bytes = refl
-
 -- two records and the beginning of a third
 pub plan : List ℕ
 plan = encoded insertLetter 0 1 ++ (encoded deleteLetter 63 7 ++ (76 ∷ []))
@@ -43,11 +34,3 @@ plan = encoded insertLetter 0 1 ++ (encoded deleteLetter 63 7 ++ (76 ∷ []))
 pub second : readingAt plan 1 ≡ Read (Delete 63 7) 2
 unfolding plan readingAt decoded areDigits
 second = refl
-
-pub third : readingAt plan 2 ≡ Read Malformed 3
-unfolding plan readingAt decoded
-third = refl
-
-pub at-the-end : readingAt plan 3 ≡ End
-unfolding plan readingAt
-at-the-end = refl

@@ -1,4 +1,4 @@
-// Where what stands in a sheet, and the sheet's own type.
+// The layout of a sheet: where each row and each count is stored; and the sheet's own type.
 ghost use mathlib.Core.Path.{_≡_};
 ghost use Prim.Native.Nat.{_≤_, _<_};
 ghost use Rattle.sheet_theory.specs.Layout.{mostVertices, size, Shape, countAt, emptySheet};

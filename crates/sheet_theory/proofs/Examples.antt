@@ -4,10 +4,7 @@ use mathlib.Core.List.{List, [], _∷_}
 use Prim.Native.Nat.{ℕ}
 use Rattle.sums.specs.Sum.{sum, delta}
 use Rattle.word.specs.Bit.{bitCount}
-use Rattle.answers.specs.Table.{firstTrue}
-use Rattle.answers.specs.Answers.{answer}
 use Rattle.sheet_theory.specs.Layout.{size, setBits, build, redoneWord, redone, emptySheet}
-use Rattle.sheet_theory.specs.Calls.{pathCountAnswer}
 
 -- the greatest sheet has 4,160 words
 pub greatest : size 64 ≡ 4160
@@ -17,15 +14,6 @@ greatest = refl
 pub one : emptySheet 1 ≡ 0 ∷ 1 ∷ []
 unfolding emptySheet redone redoneWord build delta
 one = refl
-
-pub one-outside : pathCountAnswer 1 (0 ∷ 1 ∷ []) 0 1 ≡ answer 3 0 0
-unfolding firstTrue
-one-outside = refl
-
--- rows 6, 8, 8, 0, 0 have four set bits
-pub four : setBits 5 (6 ∷ 8 ∷ 8 ∷ 0 ∷ 0 ∷ []) ≡ 4
-unfolding setBits sum bitCount
-four = refl
 
 -- a stray bit counts
 pub stray : setBits 1 (6 ∷ 1 ∷ []) ≡ 2

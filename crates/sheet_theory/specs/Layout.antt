@@ -1,5 +1,4 @@
--- Where what stands in a sheet of n vertices: n rows, then n times n counts (document 01: the sheet). Definitions only.
--- Assumes nothing.
+-- The layout of a sheet of n vertices: n rows, then n times n counts (document 01: the sheet). Definitions only. Assumes nothing.
 use mathlib.Core.Path.{_≡_}
 use mathlib.Core.Bool.{cond}
 use mathlib.Core.List.{List, [], _∷_}

@@ -1,4 +1,4 @@
--- `recount::blocks::block_holds` meets its contract: after k turns the counts from the first k vertices of the order to the columns
+-- `count_blocks::block_holds` meets its contract: after k turns the counts from the first k vertices of the order to the columns
 -- satisfy the recurrence, and those that are not among the leading have none but 0. Assumes nothing.
 use mathlib.Core.Path.{refl}
 use Prim.Native.Nat.{ℕ, _-_, _≤_, _<_}

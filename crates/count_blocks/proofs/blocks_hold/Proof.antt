@@ -1,4 +1,4 @@
--- `recount::blocks::blocks_hold` meets its contract: after each turn the counts to the columns below c satisfy the recurrence. Assumes
+-- `count_blocks::blocks_hold` meets its contract: after each turn the counts to the columns below c satisfy the recurrence. Assumes
 -- nothing.
 use Prim.Native.Nat.{_+_, _-_, _≤_}
 use native.Mathlib.Omega.{arith}

@@ -1,4 +1,4 @@
--- `recount::blocks::count_block` meets its contract: the sums over the mask, with one more at the place of i. Assumes nothing.
+-- `count_blocks::count_block` meets its contract: the sums over the mask, with one more at the place of i. Assumes nothing.
 use native.Mathlib.Omega.{arith}
 use borrow.Author.Needs.{needs}
 use Rattle.count_blocks.proofs.BlockLaws.{block-counted}

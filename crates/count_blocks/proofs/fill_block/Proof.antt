@@ -1,4 +1,4 @@
--- `recount::blocks::fill_block` meets its contract: after k turns the counts from the first k vertices of the order to the columns are
+-- `count_blocks::fill_block` meets its contract: after k turns the counts from the first k vertices of the order to the columns are
 -- worked out, and those that are not among the leading have none but 0. Assumes nothing.
 use mathlib.Core.Path.{refl}
 use Prim.Native.Nat.{_-_, _≤_}

@@ -1,4 +1,4 @@
--- `recount::blocks::fill_blocks` meets its contract: after each turn the counts to the columns below c are worked out. Assumes nothing.
+-- `count_blocks::fill_blocks` meets its contract: after each turn the counts to the columns below c are worked out. Assumes nothing.
 use Prim.Native.Nat.{_+_, _-_, _≤_}
 use native.Mathlib.Omega.{arith}
 use borrow.Author.Needs.{needs}

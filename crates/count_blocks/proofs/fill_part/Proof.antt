@@ -1,4 +1,4 @@
--- `recount::blocks::fill_part` meets its contract: the block that the recurrence gives is written over the counts from i. Assumes nothing.
+-- `count_blocks::fill_part` meets its contract: the block that the recurrence gives is written over the counts from i. Assumes nothing.
 use native.Mathlib.Omega.{arith}
 use borrow.Author.Needs.{needs}
 use Rattle.count_blocks.proofs.BlockLaws.{part-filled}

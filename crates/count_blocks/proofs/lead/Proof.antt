@@ -1,4 +1,4 @@
--- `recount::blocks::lead` meets its contract: each way out is a law of BlockLaws. Assumes nothing.
+-- `count_blocks::lead` meets its contract: each way out is a law of BlockLaws. Assumes nothing.
 use mathlib.Core.Logic.{inl, inr}
 use native.Mathlib.Omega.{arith}
 use borrow.Author.Needs.{needs}

@@ -1,4 +1,4 @@
--- `recount::blocks::part_holds` meets its contract: nothing is left of the counts from i exactly if they are the block that the recurrence
+-- `count_blocks::part_holds` meets its contract: nothing is left of the counts from i exactly if they are the block that the recurrence
 -- gives. Assumes nothing.
 use native.Mathlib.Omega.{arith}
 use borrow.Author.Needs.{needs}

@@ -1,4 +1,4 @@
--- `sheet::rows::sum_block` meets its contract: what is added up and what is left of the mask make the sum for the whole mask. What is
+-- `count_blocks::sum_block` meets its contract: what is added up and what is left of the mask make the sum for the whole mask. What is
 -- left falls with each turn. Assumes nothing.
 use Prim.Native.Nat.{_+_}
 use native.Mathlib.Omega.{arith}

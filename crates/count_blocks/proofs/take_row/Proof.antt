@@ -1,4 +1,4 @@
--- `sheet::rows::take_row` meets its contract: after j turns the first j words are taken off, and the others are as they were. Assumes nothing.
+-- `count_blocks::take_row` meets its contract: after j turns the first j words are taken off, and the others are as they were. Assumes nothing.
 use mathlib.Core.Path.{_≡_, refl}
 use Prim.Native.Nat.{ℕ, _-_, _≤_}
 use native.Mathlib.Omega.{arith}

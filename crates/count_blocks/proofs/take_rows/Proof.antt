@@ -1,4 +1,4 @@
--- `recount::blocks::take_rows` meets its contract: the counts from the vertices that are gone from what is left of the mask are taken off.
+-- `count_blocks::take_rows` meets its contract: the counts from the vertices that are gone from what is left of the mask are taken off.
 -- What is left falls with each turn. Assumes nothing.
 use native.Mathlib.Omega.{arith}
 use borrow.Author.Tests.{eqb-true, eqb-false}

@@ -1,4 +1,4 @@
--- `recount::blocks::unit_words` meets its contract. Assumes nothing.
+-- `count_blocks::unit_words` meets its contract. Assumes nothing.
 use borrow.Author.Needs.{needs}
 use Rattle.count_blocks.proofs.BlockLaws.{unit-made}
 use Rattle.count_blocks.proofs.unit_words.Statement.{statement}

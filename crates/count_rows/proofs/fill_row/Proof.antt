@@ -1,4 +1,4 @@
--- `recount::rows::fill_row` meets its contract: what the recurrence gives is written over the counts from v. Assumes nothing.
+-- `count_rows::fill_row` meets its contract: what the recurrence gives is written over the counts from v. Assumes nothing.
 use borrow.Author.Needs.{needs}
 use Rattle.count_rows.proofs.RowLaws.{row-filled}
 use Rattle.count_rows.proofs.fill_row.Statement.{statement}

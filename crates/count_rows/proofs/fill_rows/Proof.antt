@@ -1,4 +1,4 @@
--- `recount::rows::fill_rows` meets its contract: after k turns the counts from the first k vertices of the order are worked out.
+-- `count_rows::fill_rows` meets its contract: after k turns the counts from the first k vertices of the order are worked out.
 -- Assumes nothing.
 use Prim.Native.Nat.{_-_, _≤_}
 use native.Mathlib.Omega.{arith}

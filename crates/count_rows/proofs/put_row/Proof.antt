@@ -1,4 +1,4 @@
--- `recount::rows::put_row` meets its contract: after j turns the first j words are written. Assumes nothing.
+-- `count_rows::put_row` meets its contract: after j turns the first j words are written. Assumes nothing.
 use mathlib.Core.Path.{_≡_, refl}
 use Prim.Native.Nat.{ℕ, _-_, _≤_}
 use native.Mathlib.Omega.{arith}

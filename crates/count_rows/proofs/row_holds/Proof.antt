@@ -1,4 +1,4 @@
--- `recount::rows::row_holds` meets its contract: the counts from i are compared with what the recurrence gives. Assumes nothing.
+-- `count_rows::row_holds` meets its contract: the counts from i are compared with what the recurrence gives. Assumes nothing.
 use borrow.Author.Needs.{needs}
 use Rattle.count_rows.proofs.RowLaws.{holds-same}
 use Rattle.count_rows.proofs.row_holds.Statement.{statement}

@@ -1,4 +1,4 @@
--- `recount::rows::rows_hold` meets its contract: after i turns the counts from each vertex below i satisfy the recurrence. Assumes nothing.
+-- `count_rows::rows_hold` meets its contract: after i turns the counts from each vertex below i satisfy the recurrence. Assumes nothing.
 use Prim.Native.Nat.{ℕ, _-_, _≤_, _<_}
 use native.Mathlib.Omega.{arith}
 use borrow.Author.Count.{below-more}

@@ -1,4 +1,4 @@
--- `recount::rows::same_row` meets its contract: after j turns the difference is 0 exactly if the first j words agree. Assumes nothing.
+-- `count_rows::same_row` meets its contract: after j turns the difference is 0 exactly if the first j words agree. Assumes nothing.
 use Prim.Native.Nat.{_-_, _≤_}
 use native.Mathlib.Omega.{arith}
 use lib.Dec.{eqb}

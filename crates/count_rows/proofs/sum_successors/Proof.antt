@@ -1,4 +1,4 @@
--- `recount::rows::sum_successors` meets its contract: the rows of the successors of i are added up, with one at i. Assumes nothing.
+-- `count_rows::sum_successors` meets its contract: the rows of the successors of i are added up, with one at i. Assumes nothing.
 use native.Mathlib.Omega.{arith}
 use borrow.Author.Needs.{needs}
 use Rattle.count_rows.proofs.RowLaws.{successors-summed}

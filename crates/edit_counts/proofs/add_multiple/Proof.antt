@@ -1,4 +1,4 @@
--- `edit::counts::add_multiple` meets its contract: after j turns the multiple is added to the first j words. Assumes nothing.
+-- `edit_counts::add_multiple` meets its contract: after j turns the multiple is added to the first j words. Assumes nothing.
 use mathlib.Core.Path.{_≡_, refl}
 use Prim.Native.Nat.{_+_, _-_, _≤_}
 use native.Mathlib.Omega.{arith}

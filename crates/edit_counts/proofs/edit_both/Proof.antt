@@ -1,4 +1,4 @@
--- `edit::counts::edit_both` meets its contract: after i turns the counts from the first i vertices are as the edit leaves them, and the
+-- `edit_counts::edit_both` meets its contract: after i turns the counts from the first i vertices are as the edit leaves them, and the
 -- counts from the others are as they were. Assumes nothing.
 use Prim.Native.Nat.{ℕ, _-_, _≤_}
 use native.Mathlib.Omega.{arith}

@@ -1,4 +1,4 @@
--- `edit::counts::edit_to` meets its contract: the counts before base are as the edit leaves them, and those from base on are as they
+-- `edit_counts::edit_to` meets its contract: the counts before base are as the edit leaves them, and those from base on are as they
 -- were. Assumes nothing.
 use Prim.Native.Nat.{_+_, _-_, _≤_}
 use native.Mathlib.Omega.{arith}

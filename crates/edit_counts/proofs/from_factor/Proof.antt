@@ -1,4 +1,4 @@
--- `edit::counts::from_factor` meets its contract, for an insertion and for a deletion. Assumes nothing.
+-- `edit_counts::from_factor` meets its contract, for an insertion and for a deletion. Assumes nothing.
 use borrow.Author.Needs.{needs}
 use Rattle.edit_counts.proofs.FactorLaws.{from-insert, from-delete}
 use Rattle.edit_counts.proofs.from_factor.Statement.{statement}

@@ -1,4 +1,4 @@
--- `edit::counts::from_factors` meets its contract: after j turns the first j words are written. Assumes nothing.
+-- `edit_counts::from_factors` meets its contract: after j turns the first j words are written. Assumes nothing.
 use mathlib.Core.Path.{_≡_, refl, ap, _∙_}
 use Prim.Native.Nat.{_-_, _≤_}
 use native.Mathlib.Omega.{arith}

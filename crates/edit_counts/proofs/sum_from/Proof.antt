@@ -1,4 +1,4 @@
--- `edit::counts::sum_from` meets its contract: the sum so far and what is left of the mask make the sum for the whole mask. What is left
+-- `edit_counts::sum_from` meets its contract: the sum so far and what is left of the mask make the sum for the whole mask. What is left
 -- falls with each turn. Assumes nothing.
 use native.Mathlib.Omega.{arith}
 use borrow.Author.Needs.{needs}

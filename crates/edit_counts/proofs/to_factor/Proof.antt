@@ -1,4 +1,4 @@
--- `edit::counts::to_factor` meets its contract, for an insertion and for a deletion. Assumes nothing.
+-- `edit_counts::to_factor` meets its contract, for an insertion and for a deletion. Assumes nothing.
 use borrow.Author.Needs.{needs}
 use Rattle.edit_counts.proofs.FactorLaws.{to-insert, to-delete}
 use Rattle.edit_counts.proofs.to_factor.Statement.{statement}

@@ -1,4 +1,4 @@
--- `recount::checks::has_stray_row` meets its contract: the rows before i have no bit at n or above. Assumes nothing.
+-- `sheet::checks::has_stray_row` meets its contract: the rows before i have no bit at n or above. Assumes nothing.
 use Prim.Native.Nat.{ℕ, _-_, _^_, _≤_, _<_}
 use native.Mathlib.Omega.{arith}
 use borrow.Author.Needs.{needs}
