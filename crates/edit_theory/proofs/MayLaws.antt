@@ -6,14 +6,14 @@ use mathlib.Core.List.{[], _∷_}
 use Prim.Native.Nat.{ℕ, _≤_, _<_}
 use native.Mathlib.Nat.{lt-of-not-le}
 use native.Mathlib.Omega.{arith}
-use Rattle.graph.specs.Graph.{Cycle, Acyclic}
+use Rattle.graph.specs.Graph.{Cycle}
 use Rattle.answers.specs.Table.{_gives_, First}
 use Rattle.answers.specs.Answers.{answer}
 use Rattle.answers.proofs.TableLaws.{first-other, first-past}
 use Rattle.sheet_theory.specs.Conditions.{BadVertices}
 use Rattle.edit_theory.specs.Edit.{one, edgeEdit, insertEdge}
 use Rattle.edit_theory.specs.Table.{SomeEdge, effects}
-use Rattle.edit_theory.specs.Model.{Model, effect, edgeCount, modelConditions, MayInsert}
+use Rattle.edit_theory.specs.Model.{Model, effect, edgeCount, modelConditions, MayInsert, Free}
 use Rattle.edit_theory.proofs.NamedLaws.{some-one}
 
 module _ (m : Model) (u v : ℕ) where
@@ -36,15 +36,7 @@ module _ (m : Model) (u v : ℕ) where
 
   -- ---- when it may be inserted
 
-  -- the edge runs between two different vertices, it is not there, and there is no cycle with it
-  pub record Free : Type 0 where
-    pub from : u < m .vertices
-    pub to : v < m .vertices
-    pub apart : ¬ (u ≡ v)
-    pub new : ¬ (m .edge u v ≡ 1)
-    pub acyclic : Acyclic (m .vertices) (effect m (insertEdge (m .vertices) u v) .edge)
-
-  pub may-free : MayInsert m u v → Free
+  pub may-free : MayInsert m u v → Free m u v
   may-free h =
       let f : First (modelConditions m (insertEdge (m .vertices) u v)) 0 = subst (First (modelConditions m (insertEdge (m .vertices) u v))) (h .accepted) (h .step .number) in
       let a = first-past (first-past f .1) in
@@ -61,7 +53,7 @@ module _ (m : Model) (u v : ℕ) where
         acyclic = first-past (d .1) .0;
       }
 
-  pub free-may : ¬ (BadVertices (m .vertices)) → Free → MayInsert m u v
+  pub free-may : ¬ (BadVertices (m .vertices)) → Free m u v → MayInsert m u v
   free-may few h = record {
     answer = answer 0 0 (edgeCount (effect m (insertEdge (m .vertices) u v)));
     after = effect m (insertEdge (m .vertices) u v);

@@ -5,7 +5,7 @@ use mathlib.Core.List.{List}
 use Prim.Native.Nat.{ℕ, _<_}
 use lib.ListN.{length}
 use Rattle.sums.specs.Sum.{sum}
-use Rattle.graph.specs.Graph.{Exactly, IsPath, Cycle}
+use Rattle.graph.specs.Graph.{Exactly, IsPath, Cycle, Acyclic}
 use Rattle.answers.specs.declared.Answer.{Answer}
 use Rattle.answers.specs.Table.{Conditions, First}
 use Rattle.answers.specs.Answers.{decided}
@@ -49,6 +49,14 @@ pub record MayInsert (m : Model) (u v : ℕ) : Type 0 where
   pub after : Model
   pub step : Step m (insertEdge (m .vertices) u v) answer after
   pub accepted : answer .number ≡ 0
+
+-- an edge runs between two different vertices, it is not there, and there is no cycle with it
+pub record Free (m : Model) (u v : ℕ) : Type 0 where
+  pub from : u < m .vertices
+  pub to : v < m .vertices
+  pub apart : ¬ (u ≡ v)
+  pub new : ¬ (m .edge u v ≡ 1)
+  pub acyclic : Acyclic (m .vertices) (effect m (insertEdge (m .vertices) u v) .edge)
 
 -- s is the sheet worked out afresh from m: its row bits are the edges of m, and each count is the number of paths over them
 pub record Fresh (m : Model) (s : List ℕ) : Type 0 where

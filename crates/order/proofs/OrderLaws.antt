@@ -19,7 +19,7 @@ use Rattle.graph.specs.Order.{Order}
 use Rattle.graph.proofs.Peeling.{order-acyclic}
 use Rattle.sheet_theory.specs.Layout.{rowAt, edgeAt}
 use Rattle.order.specs.declared.Peeling.{Peeling}
-use Rattle.order.specs.Internal.{vertexAt, Peeled, Free, Stack, Descended, takenAway, Ordered, OrderFound}
+use Rattle.order.specs.Internal.{vertexAt, Peeled, NoneAhead, Stack, Descended, takenAway, Ordered, OrderFound}
 use Rattle.order.proofs.StackLaws.{stack-less}
 
 module _ (n : ℕ) (s : List ℕ) (high : n ≤ 64) where
@@ -29,7 +29,7 @@ module _ (n : ℕ) (s : List ℕ) (high : n ≤ 64) where
 
   -- ---- a vertex is taken away
 
-  module _ (p : Peeling) (l : List ℕ) (h : Peeled n s p l) (i : ℕ) (hi : i < n) (b : bit (p .left) i ≡ 1) (free : Free s (p .left) i) where
+  module _ (p : Peeling) (l : List ℕ) (h : Peeled n s p l) (i : ℕ) (hi : i < n) (b : bit (p .left) i ≡ 1) (free : NoneAhead s (p .left) i) where
     entry-new : vertexAt (set l (p .count) i) (p .count) ≡ i
     entry-new = getD-set-same l (p .count) i 0 (omega (arith, h .long, count-lt p l h i hi b))
 

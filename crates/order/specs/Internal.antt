@@ -31,8 +31,8 @@ abbrev pub takenAway : Peeling → ℕ → Peeling
 takenAway p v = record { left = withoutBit (p .left) v; count = p .count + 1 }
 
 -- from vertex i no edge leads to a vertex that is left
-abbrev pub Free : List ℕ → ℕ → ℕ → Type 0
-Free s left i = bitAnd (rowAt s i) left ≡ 0
+abbrev pub NoneAhead : List ℕ → ℕ → ℕ → Type 0
+NoneAhead s left i = bitAnd (rowAt s i) left ≡ 0
 
 -- ---- the stack of the search
 
@@ -52,7 +52,7 @@ pub record Ahead (s : List ℕ) (left : ℕ) (l : List ℕ) (d next : ℕ) : Typ
 -- the first d entries of l are a stack on which no vertex can be pushed; or d is 0, and there is a cycle
 pub record Descended (n : ℕ) (s : List ℕ) (left d : ℕ) (l : List ℕ) : Type 0 where
   pub stack : 0 < d → Stack n s left l d
-  pub ends : (k : ℕ) → d ≡ k + 1 → Free s left (vertexAt l k)
+  pub ends : (k : ℕ) → d ≡ k + 1 → NoneAhead s left (vertexAt l k)
   pub cycle : d ≡ 0 → Cycle n (edgeAt s)
 
 -- ---- what is found

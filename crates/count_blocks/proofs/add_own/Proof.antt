@@ -1,4 +1,4 @@
--- `count_blocks::add_own` meets its contract: if i is a column of the block, the 1 of the words of `Unit` comes to its place. Assumes
+-- `count_blocks::add_own` meets its contract: if i is a column of the block, the window of `unit_words` has its 1 at the place of i. Assumes
 -- nothing.
 use mathlib.Core.Logic.{inl, inr}
 use native.Mathlib.Omega.{arith}
