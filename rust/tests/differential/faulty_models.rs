@@ -1,340 +1,341 @@
-//! Faulty models: each is the model with one small change, which the comparison with the library has to notice.
+//! The faulty models: each is the model with one small change, which the comparison with the library has to notice. First come the
+//! tables, then the rules that they name.
 
-use crate::call::{accepted, refused, Buffers, Call};
-use crate::faulty::{as_if, clear_stray_bits, is_accepted, is_valid, recount, recounted, right, transpose, when, Faults};
+use crate::call::{accepted, refused, Buffers, Call, Edges};
+use crate::edits::{self, Direction, Edit, Formula, Terms, CYCLE, DELETION, INSERTION, PRESENT, SELF_LOOP};
+use crate::faulty::{faults, Fault, Right, ANY};
 use crate::graphs;
-use crate::model::{self, Counts, Graph};
+use crate::listing::LIST;
+use crate::lists::{BOOK, START};
+use crate::model;
+use crate::plan_cases::{UNDONE, WRITTEN};
+use crate::plans::{self, Reading, READING, RECORD};
+use crate::questions::{Passing, Sheet, Step, PASSING};
 use crate::recurrence;
 use lugloquat::sys::Answer;
+use std::num::Wrapping;
 
-/// In place of a call's name: the fault is one of every call.
-pub const ANY: &str = "any call";
+/// The least number that does not fit in a byte, and the least that does not fit in 32 bits.
+const ABOVE_BYTE: u64 = 1 << u8::BITS;
+const ABOVE_HALF: u64 = 1 << u32::BITS;
 
-/// The faults by the call on which they show.
-pub const FAULTS: &[(&str, Faults)] = &[
-    (ANY, OF_SIZES),
-    (ANY, OF_ANSWERS),
-    ("empty", OF_EMPTY),
-    ("path_count", OF_PATH_COUNT),
-    ("recount", OF_RECOUNT),
-    ("recount", OF_COUNTS),
-    ("validate", OF_VALIDATE),
-    ("validate", OF_BELIEF),
-];
+/// The greatest count of a valid sheet.
+const GREATEST_COUNT: u64 = 1 << 62;
 
-/// n or the length is taken wrongly.
-const OF_SIZES: Faults = &[
-    ("the length is looked at before n", |n, call, lent| {
-        let fits = lent.sheet.len() == n.wrapping_mul(n).wrapping_add(n);
-        let such = |answer: &Answer| answer.number == 1 && !fits;
-        when(n, call, lent, such, |_, answer, _| answer.number = 2)
-    }),
-    ("n = 0 is let in", |n, call, lent| accept_if(n == 0, n, call, lent)),
-    ("n = 65 is let in", |n, call, lent| accept_if(n == 65, n, call, lent)),
-    ("n is let in if its length fits", |n, call, lent| {
-        let fits = lent.sheet.len() == n.wrapping_mul(n).wrapping_add(n);
-        accept_if(n > 65 && fits, n, call, lent)
-    }),
-    ("n is taken modulo 2 to the 32", |n, call, lent| {
-        right(n % (1 << 32), call, lent)
-    }),
-    (
-        "n = 64 is refused",
-        |n, call, lent| {
-            if n == 64 {
-                refused(1)
-            } else {
-                right(n, call, lent)
-            }
-        },
-    ),
-    ("a longer sheet is let in", |n, call, lent| {
-        accept_if((1..=64).contains(&n) && lent.sheet.len() > n + n * n, n, call, lent)
-    }),
-    ("a sheet one word too short is let in", |n, call, lent| {
-        accept_if((1..=64).contains(&n) && lent.sheet.len() + 1 == n + n * n, n, call, lent)
-    }),
-];
+/// An edit counts as a later one if the sheet has so many edges.
+const LATER: u64 = 10;
 
-/// The answer is wrong whatever the call.
-const OF_ANSWERS: Faults = &[
-    ("the value is not 0 when refused", |n, call, lent| {
-        when(n, call, lent, is_refused, |_, answer, _| answer.value = 1)
-    }),
-    ("the place is not 0 when refused", |n, call, lent| {
-        when(n, call, lent, is_refused, |_, answer, _| answer.place = 1)
-    }),
-    ("the place is not 0 when accepted", |n, call, lent| {
-        when(n, call, lent, is_accepted, |_, answer, _| answer.place = 1)
-    }),
-    ("a refused call writes a word", |n, call, lent| {
-        when(n, call, lent, is_refused, |_, _, sheet| change_last(sheet))
-    }),
-];
+/// For each call a fault of each kind that it can have.
+pub const OF_CALLS: &[Fault] = faults! {
+    "empty" {
+        order: "the length is looked at before n", (1, 2, has_wrong_length);
+        value: "it is n", |right, _| right.n as u64;
+        words: "the last one stays", last_word_stays;
+    }
+    "insert_edge" {
+        order: "a cycle is looked for before an edge already there", (6, 8, |right| right.meets(CYCLE));
+        value: "bits at n and above are not counted", bits_below_n;
+        words: "the products are those of the low halves", |right, words| recompute(right, words, of_low_halves);
+    }
+    "delete_edge" {
+        order: "an edge that is missing is looked for before the vertices", (3, 7, lacks_edge);
+        value: "an edge from a vertex to itself is not counted", bits_off_diagonal;
+        words: "a count stops at 0", |right, words| recompute(right, words, stopping_at_0);
+    }
+    "insert_edges_at" {
+        order: "an edge already there is looked for before one from a vertex to itself", (5, 6, |right| right.meets(PRESENT));
+        value: "bits at n and above are not counted", bits_below_n;
+        words: "the last one stays", last_word_stays;
+    }
+    "delete_edges_at" {
+        order: "the masks are looked at before the vertex", (3, 4, has_mask_to_refuse);
+        value: "an edge that both masks name is taken off twice", bits_less_edges_named;
+        words: "an edge that both masks name is inverted twice", edge_named_twice_stays;
+    }
+    "path_count" {
+        order: "the vertices are looked at before the length", (2, 3, has_vertex_to_refuse);
+        value: "it is 1 from a vertex to itself", one_to_itself;
+    }
+    "reaches_without" {
+        order: "an edge that is missing is looked for before the vertices", (3, 7, lacks_edge);
+        value: "the product is not taken modulo 2 to the 64", differs_from_whole_product;
+    }
+    "unrank" {
+        order: "the count is looked at before the buffer", (10, 11, has_no_such_path);
+        value: "a vertex that the walk comes to again is counted once", different_vertices;
+        bytes: "a walk that fails has written its first vertex", first_vertex_is_written;
+    }
+    "rank" {
+        order: "the number of vertices is looked at before the vertices", (3, 12, |right| right.before.bytes.len() > right.n);
+        value: "the last step does not count", rank_without_last_step => LIST;
+    }
+    "read_plan" {
+        order: "a vertex is looked at before the line feed", (14, 3, has_record_with_vertex_to_refuse);
+        place: "it is kept in a byte", |place| place % ABOVE_BYTE;
+        value: "every record counts as an insertion", bits_and_records => UNDONE;
+        words: "the records before a refused one stay", records_before_stay;
+    }
+    "write_plan" {
+        order: "the buffer is looked at before the sheet", (9, 10, has_short_buffer);
+        value: "it is the length of the buffer", |right, _| right.before.bytes.len() as u64;
+        bytes: "the digits are octal", digits_are_octal => WRITTEN;
+    }
+    "recount" {
+        order: "a cycle is looked for before a bit at n or above", (4, 8, |right| graphs::has_cycle(&right.graph()));
+        value: "it is kept in a byte", |right, _| right.answer.value % ABOVE_BYTE;
+        words: "a count is taken modulo 2 to the 62", greatest_count_becomes_0;
+    }
+    "validate" {
+        order: "the length is looked at before n", (1, 2, has_wrong_length);
+        value: "a cycle is let in if the recurrence holds and no count is above 2 to the 62", let_in_by_recurrence;
+    }
+};
 
-const OF_EMPTY: Faults = &[
-    ("the diagonal is 0", |n, call, lent| {
-        when(n, call, lent, is_accepted, |n, _, sheet| {
-            (0..n).for_each(|i| sheet[model::count_index(n, i, i)] = 0)
-        })
-    }),
-    ("the first row stays", |n, call, lent| {
-        let first = lent.sheet.first().copied();
-        when(n, call, lent, is_accepted, |_, _, sheet| sheet[0] = first.unwrap_or(0))
-    }),
-    ("the last word stays", |n, call, lent| {
-        let last = lent.sheet.last().copied();
-        when(n, call, lent, is_accepted, |n, _, sheet| {
-            sheet[n * n + n - 1] = last.unwrap_or(0)
-        })
-    }),
-    ("the value is n", |n, call, lent| {
-        when(n, call, lent, is_accepted, |n, answer, _| answer.value = n as u64)
-    }),
-];
+/// The six wrong programs of document 01's clause c, of which the second is two faults, and its four wrong turnings.
+pub const OF_DOCUMENT: &[Fault] = faults! {
+    ANY { words: "later edits set bits but leave the counts alone", later_counts_stay => BOOK; }
+    "insert_edge" { effect: "a cycle is found without looking", |right, answer, left| refuse(8, right, answer, left); }
+    "unrank" { effect: "no such path is found, without looking", |right, answer, left| refuse(11, right, answer, left) => LIST; }
+    "path_count" { value: "a count of 0 becomes 1", |right, _| right.answer.value.max(1); }
+    ANY { effect: "every sheet is left alone and every edit accepted", nothing_changes; }
+    ANY { effect: "every answer is the same", |_, answer, _| *answer = accepted(1); }
+    ANY { effect: "everything is refused", |right, answer, left| refuse(2, right, answer, left); }
+    "reaches_without" { effect: "the product is tested though the edge is missing", missing_edge_is_let_in => LIST; }
+    "delete_edges_at" { words: "F × T has insertion's sign", |right, words| recompute(right, words, with_insertions_sign) => START; }
+    "insert_edges_at" { effect: "a vertex that both masks have closes no cycle", shared_vertex_is_let_in; }
+    "delete_edges_at" { words: "T is summed from changed counts", |right, words| recompute(right, words, with_changed_t); }
+};
 
-const OF_PATH_COUNT: Faults = &[
-    ("transposed", |n, call, lent| {
-        with_vertices(n, call, lent, |from, to| (to, from))
-    }),
-    ("from = n is let in", |n, call, lent| {
-        with_vertices(n, call, lent, |from, to| (if from == n { 0 } else { from }, to))
-    }),
-    ("to = n is let in", |n, call, lent| {
-        with_vertices(n, call, lent, |from, to| (from, if to == n { 0 } else { to }))
-    }),
-    ("vertices are taken modulo 2 to the 32", |n, call, lent| {
-        with_vertices(n, call, lent, |from, to| (from % (1 << 32), to % (1 << 32)))
-    }),
-    ("the vertices are looked at before the length", |n, call, lent| {
-        let outside = matches!(*call, Call::PathCount { from, to } if from >= n || to >= n);
-        let such = |answer: &Answer| answer.number == 2 && outside;
-        when(n, call, lent, such, |_, answer, _| answer.number = 3)
-    }),
-    ("the count is worked out afresh", |n, call, lent| {
-        as_if(n, call, lent, recount)
-    }),
-    ("a sheet that is not valid is refused", |n, call, lent| {
-        let valid = is_valid(n, lent);
-        let such = |answer: &Answer| is_accepted(answer) && !valid;
-        when(n, call, lent, such, |_, answer, _| *answer = refused(9))
-    }),
-];
+/// Faults that show that the number, the place and the value are compared in accepted and in refused calls, in all their bits.
+pub const OF_ANSWERS: &[Fault] = faults! {
+    ANY {
+        effect: "a refused call's number is above 2 to the 32", |right, answer, _| if right.is_refused() { answer.number += ABOVE_HALF };
+        effect: "a refused call's value is not 0", |right, answer, _| if right.is_refused() { answer.value = 1 };
+        effect: "an accepted call's place is not 0", |right, answer, _| if right.is_accepted() { answer.place = 1 };
+        value: "it is taken modulo 2 to the 32", |right, _| right.answer.value % ABOVE_HALF;
+    }
+};
 
-const OF_RECOUNT: Faults = &[
-    ("the value is one too many", |n, call, lent| {
-        when(n, call, lent, is_accepted, |_, answer, _| answer.value += 1)
-    }),
-    ("a self loop is no cycle", |n, call, lent| {
-        as_if(n, call, lent, clear_self_loops)
-    }),
-    ("a cycle is never found", |n, call, lent| {
-        when(
-            n,
-            call,
-            lent,
-            |answer| answer.number == 8,
-            |_, answer, _| *answer = accepted(1),
-        )
-    }),
-    ("one cycle of more than 32 vertices is not found", |n, call, lent| {
-        let such = |answer: &Answer| answer.number == 8 && n > 32;
-        when(n, call, lent, such, |n, answer, sheet| {
-            if (0..n).all(|i| sheet[i].is_power_of_two()) {
-                *answer = accepted(n as u64);
-            }
-        })
-    }),
-    ("a stray bit is let in", |n, call, lent| {
-        as_if(n, call, lent, clear_stray_bits)
-    }),
-    ("a stray bit of the last row is let in", |n, call, lent| {
-        as_if(n, call, lent, |n, sheet| clear_stray_bits(n, &mut sheet[n - 1..n]))
-    }),
-    ("a cycle is looked for before a stray bit", |n, call, lent| {
-        let mut other = lent.clone();
-        let cycle = as_if(n, call, &mut other, clear_stray_bits).number == 8;
-        let such = |answer: &Answer| answer.number == 4 && cycle;
-        when(n, call, lent, such, |_, answer, _| answer.number = 8)
-    }),
-    ("refused by 8, it writes a word", |n, call, lent| {
-        when(n, call, lent, |answer| answer.number == 8, |_, _, sheet| change_last(sheet))
-    }),
-    ("a sheet that is not valid is refused", |n, call, lent| {
-        let valid = is_valid(n, lent);
-        if model::check_sizes(n, &lent.sheet).is_ok() && !valid {
-            refused(9)
-        } else {
-            right(n, call, lent)
-        }
-    }),
-];
-
-/// An accepted recount writes wrong words.
-const OF_COUNTS: Faults = &[
-    ("a count is taken modulo 2 to the 62", |n, call, lent| {
-        when(n, call, lent, is_accepted, |n, _, sheet| {
-            sheet[n..].iter_mut().for_each(|count| *count %= 1 << 62)
-        })
-    }),
-    ("a count is taken modulo 2 to the 32", |n, call, lent| {
-        when(n, call, lent, is_accepted, |n, _, sheet| {
-            sheet[n..].iter_mut().for_each(|count| *count %= 1 << 32)
-        })
-    }),
-    ("the counts are transposed", |n, call, lent| {
-        when(n, call, lent, is_accepted, |n, _, sheet| transpose(n, sheet))
-    }),
-    ("the diagonal is 0", |n, call, lent| {
-        when(n, call, lent, is_accepted, |n, _, sheet| {
-            (0..n).for_each(|i| sheet[model::count_index(n, i, i)] = 0)
-        })
-    }),
-    ("the last count stays", |n, call, lent| {
-        let last = lent.sheet.last().copied();
-        when(n, call, lent, is_accepted, |n, _, sheet| {
-            sheet[n * n + n - 1] = last.unwrap_or(0)
-        })
-    }),
-    ("the first row is cleared", |n, call, lent| {
-        when(n, call, lent, is_accepted, |_, _, sheet| sheet[0] = 0)
-    }),
-];
-
-const OF_VALIDATE: Faults = &[
-    ("always 0", |n, call, lent| {
-        when(n, call, lent, is_accepted, |_, answer, _| answer.value = 0)
-    }),
-    ("always 1", |n, call, lent| {
-        when(n, call, lent, is_accepted, |_, answer, _| answer.value = 1)
-    }),
-    ("a sheet that is not valid is refused", |n, call, lent| {
-        let such = |answer: &Answer| is_accepted(answer) && answer.value == 0;
-        when(n, call, lent, such, |_, answer, _| *answer = refused(9))
-    }),
-    ("the counts are put right", |n, call, lent| {
-        when(n, call, lent, is_accepted, |n, _, sheet| recount(n, sheet))
-    }),
-    ("the last count is not compared", |n, call, lent| {
-        as_if(n, call, lent, |n, sheet| {
-            keep_only(n, sheet, |i, j, _| (i, j) != (n - 1, n - 1), u64::MAX)
-        })
-    }),
-    ("the diagonal is not compared", |n, call, lent| {
-        as_if(n, call, lent, |n, sheet| keep_only(n, sheet, |i, j, _| i != j, u64::MAX))
-    }),
-    ("counts of 0 are not compared", |n, call, lent| {
-        as_if(n, call, lent, |n, sheet| {
-            keep_only(n, sheet, |_, _, count| count != 0, u64::MAX)
-        })
-    }),
-    ("the high half of a count is not compared", |n, call, lent| {
-        as_if(n, call, lent, |n, sheet| keep_only(n, sheet, |_, _, _| true, u64::MAX >> 32))
-    }),
-    ("the highest bit of a count is not compared", |n, call, lent| {
-        as_if(n, call, lent, |n, sheet| keep_only(n, sheet, |_, _, _| true, u64::MAX >> 1))
-    }),
-];
-
-/// Validate says 1 of a sheet because it does not look for what is wrong with it.
-const OF_BELIEF: Faults = &[
-    ("a self loop is not seen", |n, call, lent| {
-        as_if(n, call, lent, clear_self_loops)
-    }),
-    ("a stray bit is not seen", |n, call, lent| {
-        as_if(n, call, lent, clear_stray_bits)
-    }),
-    ("the counts are taken as transposed", |n, call, lent| {
-        as_if(n, call, lent, |n, sheet| {
-            let mut other = sheet.to_vec();
-            transpose(n, &mut other);
-            recount(n, sheet);
-            if other != sheet {
-                change_last(sheet);
-            }
-        })
-    }),
-    ("a cycle is believed if the recurrence holds", |n, call, lent| {
-        believing(n, call, lent, recurrence::holds)
-    }),
-    (
-        "a cycle is believed if the recurrence holds and no count is above 2 to the 62",
-        |n, call, lent| {
-            believing(n, call, lent, |graph, counts| {
-                recurrence::holds(graph, counts) && counts.iter().flatten().all(|&count| count <= 1 << 62)
-            })
-        },
-    ),
-    (
-        "a cycle is believed if the recurrence holds and no count leads back along an edge",
-        |n, call, lent| {
-            believing(n, call, lent, |graph, counts| {
-                recurrence::holds(graph, counts) && graphs::edges(graph).iter().all(|&(i, j)| counts[j][i] == 0)
-            })
-        },
-    ),
-    ("a cycle is believed if each count is the number of paths", |n, call, lent| {
-        believing(n, call, lent, |graph, counts| {
-            graph.len() <= model::LISTED && model::counts_by_listing(graph) == *counts
-        })
-    }),
-];
-
-fn is_refused(answer: &Answer) -> bool {
-    answer.number != 0
+/// Whether the length is not n + n × n, for an n that may be too great.
+fn has_wrong_length(right: &Right) -> bool {
+    right.before.sheet.len() != right.n.wrapping_mul(right.n).wrapping_add(right.n)
 }
 
-/// Accepts, and does nothing, if told to.
-fn accept_if(told: bool, n: usize, call: &Call, lent: &mut Buffers) -> Answer {
-    if told {
-        accepted(0)
-    } else {
-        right(n, call, lent)
+fn last_word_stays(right: &Right, words: &mut [u64]) {
+    if let (Some(last), Some(before)) = (words.last_mut(), right.before.sheet.last()) {
+        *last = *before;
     }
 }
 
-/// The right answer of path_count for other vertices.
-fn with_vertices(n: usize, call: &Call, lent: &mut Buffers, other: impl Fn(usize, usize) -> (usize, usize)) -> Answer {
-    match *call {
-        Call::PathCount { from, to } => {
-            let (from, to) = other(from, to);
-            right(n, &Call::PathCount { from, to }, lent)
-        }
-        _ => right(n, call, lent),
+fn bits_below_n(right: &Right, left: &Buffers) -> u64 {
+    graphs::edges(&model::graph_of(right.n, &left.sheet)).len() as u64
+}
+
+fn bits_off_diagonal(right: &Right, left: &Buffers) -> u64 {
+    let on_diagonal = (0..right.n).filter(|&i| model::bit(left.sheet[i], i));
+    right.answer.value - on_diagonal.count() as u64
+}
+
+/// Whether the edge that a call needs is missing from the row of its first vertex.
+fn lacks_edge(right: &Right) -> bool {
+    let (from, to) = match *right.call {
+        Call::Delete(Edges::One { from, to }) => (from, to),
+        Call::ReachesWithout { edge_from, edge_to, .. } => (edge_from, edge_to),
+        _ => return false,
+    };
+    from < right.n && !model::members(right.before.sheet[from]).any(|vertex| vertex == to)
+}
+
+/// The vertices that the masks of a deletion name, one that both name twice.
+fn vertices_named(right: &Right) -> impl Iterator<Item = usize> {
+    let masks = match *right.call {
+        Call::Delete(Edges::At { predecessors, successors, .. }) => [predecessors, successors],
+        _ => [0, 0],
+    };
+    masks.into_iter().flat_map(model::members)
+}
+
+fn has_mask_to_refuse(right: &Right) -> bool {
+    vertices_named(right).any(|vertex| vertex >= right.n)
+}
+
+fn bits_less_edges_named(right: &Right, _: &Buffers) -> u64 {
+    right.set_bits().wrapping_sub(vertices_named(right).count() as u64)
+}
+
+/// The only edge that both masks can name runs from v to itself.
+fn edge_named_twice_stays(right: &Right, words: &mut [u64]) {
+    if let (true, Call::Delete(Edges::At { v, predecessors, successors })) = (right.is_accepted(), *right.call) {
+        words[v] |= predecessors & successors & (1 << v);
     }
 }
 
-/// The right answer, but on a sheet with a cycle and no stray bit what `valid` says.
-fn believing(n: usize, call: &Call, lent: &mut Buffers, valid: impl Fn(&Graph, &Counts) -> bool) -> Answer {
-    if model::check_sizes(n, &lent.sheet).is_err() || model::has_stray_bit(n, &lent.sheet) {
-        return right(n, call, lent);
+/// Computes the counts of an accepted edit one after the other by the rule: from the right formula, from what goes into it, and from
+/// that as it is by then.
+fn recompute(right: &Right, words: &mut [u64], rule: fn(Formula, &Terms, &Terms) -> Wrapping<u64>) {
+    let (true, Some(edit)) = (right.is_accepted(), right.edit()) else {
+        return;
+    };
+    let inserts = matches!(right.call, Call::Insert(_));
+    let formula = if inserts { INSERTION.count } else { DELETION.count };
+    let old = model::stored_counts(right.n, &right.before.sheet);
+    let mut now = old.clone();
+    for (i, j) in (0..right.n).flat_map(|i| (0..right.n).map(move |j| (i, j))) {
+        now[i][j] = rule(formula, &edit.terms(&old, i, j), &edit.terms(&now, i, j)).0;
     }
-    let graph = model::graph_of(n, &lent.sheet);
-    if graphs::has_cycle(&graph) {
-        accepted(u64::from(valid(&graph, &model::stored_counts(n, &lent.sheet))))
-    } else {
-        right(n, call, lent)
+    model::write_counts(&now, words);
+}
+
+fn of_low_halves(formula: Formula, old: &Terms, _: &Terms) -> Wrapping<u64> {
+    let low = |number: Wrapping<u64>| number % Wrapping(ABOVE_HALF);
+    formula(&Terms {
+        count: old.count,
+        to_v: low(old.to_v),
+        from_v: low(old.from_v),
+        f: low(old.f),
+        t: low(old.t),
+    })
+}
+
+fn stopping_at_0(formula: Formula, old: &Terms, _: &Terms) -> Wrapping<u64> {
+    let taken_off = old.count - formula(old);
+    Wrapping(old.count.0.saturating_sub(taken_off.0))
+}
+
+fn with_insertions_sign(_: Formula, old: &Terms, _: &Terms) -> Wrapping<u64> {
+    old.count - (old.to_v * old.t + old.f * old.from_v + old.f * old.t)
+}
+
+fn with_changed_t(formula: Formula, old: &Terms, now: &Terms) -> Wrapping<u64> {
+    formula(&Terms { t: now.t, ..*old })
+}
+
+fn has_vertex_to_refuse(right: &Right) -> bool {
+    matches!(*right.call, Call::PathCount { from, to } if from >= right.n || to >= right.n)
+}
+
+fn one_to_itself(right: &Right, _: &Buffers) -> u64 {
+    match *right.call {
+        Call::PathCount { from, to } if from == to => 1,
+        _ => right.answer.value,
     }
 }
 
-/// Puts the right counts in the place of those not kept, and the right bits in the place of those outside the mask.
-fn keep_only(n: usize, sheet: &mut [u64], kept: impl Fn(usize, usize, u64) -> bool, mask: u64) {
-    let Some(other) = recounted(n, sheet) else { return };
-    for i in 0..n {
-        for j in 0..n {
-            let at = model::count_index(n, i, j);
-            let mask = if kept(i, j, other[at]) { mask } else { 0 };
-            sheet[at] = sheet[at] & mask | other[at] & !mask;
-        }
+fn differs_from_whole_product(right: &Right, _: &Buffers) -> u64 {
+    let Call::ReachesWithout { from, to, edge_from, edge_to } = *right.call else {
+        return right.answer.value;
+    };
+    let count = |i: usize, j: usize| u128::from(right.sheet().count(i, j).0);
+    u64::from(count(from, edge_from) * count(edge_to, to) != count(from, to))
+}
+
+fn has_no_such_path(right: &Right) -> bool {
+    matches!(*right.call, Call::Unrank { from, to, k } if k >= right.sheet().count(from, to).0)
+}
+
+fn different_vertices(right: &Right, left: &Buffers) -> u64 {
+    let path = &left.bytes[..right.answer.value as usize];
+    (0..right.n).filter(|&vertex| path.contains(&(vertex as u8))).count() as u64
+}
+
+fn first_vertex_is_written(right: &Right, path: &mut [u8]) {
+    if let (Call::Unrank { from, .. }, 9) = (*right.call, right.answer.number) {
+        path[0] = from as u8;
     }
 }
 
-fn change_last(sheet: &mut [u64]) {
-    if let Some(last) = sheet.last_mut() {
-        *last ^= 1;
+fn rank_without_last_step(right: &Right, _: &Buffers) -> u64 {
+    let over = |sheet: &Sheet, step: Step, b: usize| step.y != step.last && (PASSING.over)(sheet, step, b);
+    Passing { over, ..PASSING }.sum(&right.sheet(), &right.before.bytes)
+}
+
+/// Whether the record would be refused by 3 if its line feed were not looked at.
+fn has_record_with_vertex_to_refuse(right: &Right) -> bool {
+    let reading = Reading { end: |_| true, ..READING };
+    let answer = plans::read(right.n, &mut right.before.clone(), &reading);
+    (answer.number, answer.place) == (3, right.answer.place)
+}
+
+fn bits_and_records(right: &Right, _: &Buffers) -> u64 {
+    right.set_bits() + (right.before.bytes.len() / RECORD) as u64
+}
+
+fn records_before_stay(right: &Right, words: &mut [u64]) {
+    if right.answer.place > 0 {
+        let mut read = right.before.clone();
+        read.bytes.truncate(RECORD * (right.answer.place as usize - 1));
+        model::answer(right.n, right.call, &mut read);
+        words.copy_from_slice(&read.sheet);
     }
 }
 
-fn clear_self_loops(n: usize, sheet: &mut [u64]) {
-    (0..n).for_each(|i| sheet[i] &= !(1 << i));
+fn has_short_buffer(right: &Right) -> bool {
+    right.before.bytes.len() < RECORD * right.set_bits() as usize
+}
+
+fn digits_are_octal(right: &Right, plan: &mut [u8]) {
+    if right.is_accepted() {
+        let record = |(from, to): (usize, usize)| format!("L {from:02o} {to:02o}\n");
+        let text: String = graphs::edges(&right.graph()).into_iter().map(record).collect();
+        plan[..text.len()].copy_from_slice(text.as_bytes());
+    }
+}
+
+fn greatest_count_becomes_0(right: &Right, words: &mut [u64]) {
+    if right.is_accepted() {
+        words[right.n..].iter_mut().for_each(|count| *count %= GREATEST_COUNT);
+    }
+}
+
+fn let_in_by_recurrence(right: &Right, left: &Buffers) -> u64 {
+    let (graph, counts) = (right.graph(), model::stored_counts(right.n, &left.sheet));
+    let seems_valid = recurrence::holds(&graph, &counts) && counts.iter().flatten().all(|&count| count <= GREATEST_COUNT);
+    u64::from(seems_valid && !model::has_stray_bit(right.n, &left.sheet))
+}
+
+fn later_counts_stay(right: &Right, words: &mut [u64]) {
+    if right.call.is_edit() && right.is_accepted() && right.set_bits() >= LATER {
+        words[right.n..].copy_from_slice(&right.before.sheet[right.n..]);
+    }
+}
+
+/// Refuses by that number what is accepted.
+fn refuse(number: u64, right: &Right, answer: &mut Answer, left: &mut Buffers) {
+    if right.is_accepted() {
+        *answer = refused(number);
+        left.clone_from(right.before);
+    }
+}
+
+fn nothing_changes(right: &Right, answer: &mut Answer, left: &mut Buffers) {
+    if right.call.is_edit() && model::check_sizes(right.n, &right.before.sheet).is_ok() {
+        *answer = accepted(right.set_bits());
+    }
+    left.sheet.clone_from(&right.before.sheet);
+}
+
+fn missing_edge_is_let_in(right: &Right, answer: &mut Answer, _: &mut Buffers) {
+    if let (Call::ReachesWithout { edge_from, edge_to, .. }, 7) = (*right.call, right.answer.number) {
+        let mut with_edge = right.before.clone();
+        with_edge.sheet[edge_from] |= 1 << edge_to;
+        *answer = model::answer(right.n, right.call, &mut with_edge);
+    }
+}
+
+fn shared_vertex_is_let_in(right: &Right, answer: &mut Answer, left: &mut Buffers) {
+    let conditions = &[SELF_LOOP, PRESENT, (8, closes_cycle_of_edges_there)];
+    if let Call::Insert(edges) = right.call {
+        left.clone_from(right.before);
+        let verdict = edits::edit(right.n, &mut left.sheet, edges, &Direction { conditions, ..INSERTION });
+        *answer = verdict.map_or_else(refused, accepted);
+    }
+}
+
+/// Whether an edge that is there is part of a cycle that the edit closes, by the counts.
+fn closes_cycle_of_edges_there(edit: &Edit, n: usize, sheet: &[u64]) -> bool {
+    let leads = |b: usize, a: usize| a != b && sheet[model::count_index(n, b, a)] != 0;
+    let through_v = |b: usize| edit.predecessors.iter().any(|&a| leads(b, a));
+    edits::closes_cycle_into_v(edit, n, sheet)
+        || edits::closes_cycle_out_of_v(edit, n, sheet)
+        || edit.successors.iter().any(|&b| through_v(b))
 }

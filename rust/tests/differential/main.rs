@@ -4,7 +4,7 @@
 //! not 0 if the library and the model disagree anywhere, if a fault put in on purpose goes unnoticed, or if too little came up.
 //!
 //! A further call is a variant of `Call` with its outcomes, a function of the model, a line for each way into the library, a
-//! generator of cases, and some faults.
+//! generator of cases, and a fault of each kind that it can have.
 
 mod agreement;
 mod arguments;
@@ -17,15 +17,7 @@ mod damaged;
 mod edits;
 mod faults;
 mod faulty;
-mod faulty_edits;
-mod faulty_masks;
 mod faulty_models;
-mod faulty_plans;
-mod faulty_questions;
-mod faulty_rank;
-mod faulty_records;
-mod faulty_unrank;
-mod faulty_written;
 mod fixed;
 mod fixed_plans;
 mod fixed_questions;
