@@ -3,6 +3,7 @@
 
 use crate::call::Edges;
 use crate::model::{self, bit, members, Counts, Verdict};
+use crate::questions::Sheet;
 use std::num::Wrapping;
 
 /// An edit at vertex v: the edges from each of the predecessors to v, and from v to each of the successors. One edge is the edit at
@@ -26,52 +27,39 @@ pub struct Terms {
 /// The count after the edit.
 pub type Formula = fn(&Terms) -> Wrapping<u64>;
 
-/// A condition of an edit on the sheet before it, of n vertices.
-pub type Condition = fn(&Edit, usize, &[u64]) -> bool;
-
-/// What sets insertion and deletion apart.
-#[derive(Clone, Copy)]
-pub struct Direction {
-    /// By which number each condition refuses, in the order in which they are looked for.
-    pub conditions: &'static [(u64, Condition)],
-    /// What a row becomes, for an edge named that has this bit in it.
-    pub row: fn(u64, u64) -> u64,
-    pub count: Formula,
+pub fn after_insertion(x: &Terms) -> Wrapping<u64> {
+    x.count + (x.to_v * x.t + x.f * x.from_v + x.f * x.t)
 }
 
-pub const SELF_LOOP: (u64, Condition) = (5, has_self_loop);
-pub const PRESENT: (u64, Condition) = (6, has_edge_there);
-pub const ABSENT: (u64, Condition) = (7, has_edge_missing);
-pub const CYCLE: (u64, Condition) = (8, closes_cycle);
+pub fn after_deletion(x: &Terms) -> Wrapping<u64> {
+    x.count - (x.to_v * x.t + x.f * x.from_v - x.f * x.t)
+}
 
-pub const INSERTION: Direction = Direction {
-    conditions: &[SELF_LOOP, PRESENT, CYCLE],
-    row: |row, bit| row | bit,
-    count: |x| x.count + (x.to_v * x.t + x.f * x.from_v + x.f * x.t),
-};
-
-pub const DELETION: Direction = Direction {
-    conditions: &[ABSENT],
-    row: |row, bit| row & !bit,
-    count: |x| x.count - (x.to_v * x.t + x.f * x.from_v - x.f * x.t),
-};
-
-/// The edit, on any words.
-pub fn edit(n: usize, sheet: &mut [u64], edges: &Edges, direction: &Direction) -> Verdict {
-    model::check_sizes(n, sheet)?;
+/// The insertion, on any words.
+pub fn insert(n: usize, words: &mut [u64], edges: &Edges) -> Verdict {
+    model::check_sizes(n, words)?;
     let edit = Edit::of(n, edges)?;
-    for &(number, holds) in direction.conditions {
-        if holds(&edit, n, sheet) {
-            return Err(number);
-        }
+    let sheet = Sheet { n, words };
+    if edit.has_self_loop() {
+        Err(5)
+    } else if edit.has_edge_there(&sheet) {
+        Err(6)
+    } else if edit.closes_cycle(&sheet) {
+        Err(8)
+    } else {
+        Ok(edit.enter(n, words))
     }
-    let before = model::stored_counts(n, sheet);
-    let after = edit.counts_after(&before, direction.count);
-    model::write_counts(&after, sheet);
-    for (from, to) in edit.edges() {
-        sheet[from] = (direction.row)(sheet[from], 1 << to);
+}
+
+/// The deletion, on any words.
+pub fn delete(n: usize, words: &mut [u64], edges: &Edges) -> Verdict {
+    model::check_sizes(n, words)?;
+    let edit = Edit::of(n, edges)?;
+    if edit.has_edge_missing(&Sheet { n, words }) {
+        Err(7)
+    } else {
+        Ok(edit.strike_out(n, words))
     }
-    Ok(model::set_bits(n, sheet))
 }
 
 impl Edit {
@@ -117,46 +105,49 @@ impl Edit {
         }
     }
 
-    fn counts_after(&self, before: &Counts, formula: Formula) -> Counts {
-        let n = before.len();
-        let count = |i: usize, j: usize| formula(&self.terms(before, i, j)).0;
-        (0..n).map(|i| (0..n).map(|j| count(i, j)).collect()).collect()
+    fn change_counts(&self, n: usize, words: &mut [u64], formula: Formula) {
+        let before = model::stored_counts(n, words);
+        let count = |i: usize, j: usize| formula(&self.terms(&before, i, j)).0;
+        let after = (0..n).map(|i| (0..n).map(|j| count(i, j)).collect()).collect();
+        model::write_counts(&after, words);
     }
-}
 
-fn has_self_loop(edit: &Edit, _: usize, _: &[u64]) -> bool {
-    edit.edges().iter().any(|&(from, to)| from == to)
-}
+    /// Enters the edges, whether or not a condition holds, and gives the number of set bits in all rows.
+    pub fn enter(&self, n: usize, words: &mut [u64]) -> u64 {
+        self.change_counts(n, words, after_insertion);
+        for (from, to) in self.edges() {
+            words[from] |= 1 << to;
+        }
+        model::set_bits(n, words)
+    }
 
-fn has_edge_there(edit: &Edit, _: usize, sheet: &[u64]) -> bool {
-    edit.edges().iter().any(|&(from, to)| bit(sheet[from], to))
-}
+    /// Strikes the edges out in the same way.
+    fn strike_out(&self, n: usize, words: &mut [u64]) -> u64 {
+        self.change_counts(n, words, after_deletion);
+        for (from, to) in self.edges() {
+            words[from] &= !(1 << to);
+        }
+        model::set_bits(n, words)
+    }
 
-fn has_edge_missing(edit: &Edit, _: usize, sheet: &[u64]) -> bool {
-    edit.edges().iter().any(|&(from, to)| !bit(sheet[from], to))
-}
+    fn has_self_loop(&self) -> bool {
+        self.edges().iter().any(|&(from, to)| from == to)
+    }
 
-fn closes_cycle(edit: &Edit, n: usize, sheet: &[u64]) -> bool {
-    closes_cycle_into_v(edit, n, sheet) || closes_cycle_out_of_v(edit, n, sheet) || closes_cycle_through_v(edit, n, sheet)
-}
+    pub fn has_edge_there(&self, sheet: &Sheet) -> bool {
+        self.edges().iter().any(|&(from, to)| sheet.edge(from, to))
+    }
 
-/// count(v, a) is not 0 for some predecessor a.
-pub fn closes_cycle_into_v(edit: &Edit, n: usize, sheet: &[u64]) -> bool {
-    edit.predecessors.iter().any(|&a| leads(n, sheet, edit.v, a))
-}
+    fn has_edge_missing(&self, sheet: &Sheet) -> bool {
+        self.edges().iter().any(|&(from, to)| !sheet.edge(from, to))
+    }
 
-/// count(b, v) is not 0 for some successor b.
-pub fn closes_cycle_out_of_v(edit: &Edit, n: usize, sheet: &[u64]) -> bool {
-    edit.successors.iter().any(|&b| leads(n, sheet, b, edit.v))
-}
-
-/// count(b, a) is not 0 for some successor b and some predecessor a.
-pub fn closes_cycle_through_v(edit: &Edit, n: usize, sheet: &[u64]) -> bool {
-    let back = |b: usize| edit.predecessors.iter().any(|&a| leads(n, sheet, b, a));
-    edit.successors.iter().any(|&b| back(b))
-}
-
-/// Whether the count from i to j is not 0.
-fn leads(n: usize, sheet: &[u64], i: usize, j: usize) -> bool {
-    sheet[model::count_index(n, i, j)] != 0
+    /// Whether count(v, a) is not 0 for some predecessor a, or count(b, v) for some successor b, or count(b, a) for some pair of them.
+    pub fn closes_cycle(&self, sheet: &Sheet) -> bool {
+        let leads = |i: usize, j: usize| sheet.count(i, j).0 != 0;
+        let into_v = self.predecessors.iter().any(|&a| leads(self.v, a));
+        let out_of_v = self.successors.iter().any(|&b| leads(b, self.v));
+        let through_v = |b: usize| self.predecessors.iter().any(|&a| leads(b, a));
+        into_v || out_of_v || self.successors.iter().any(|&b| through_v(b))
+    }
 }

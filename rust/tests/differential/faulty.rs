@@ -2,7 +2,7 @@
 //! into a table.
 
 use crate::call::{Buffers, Call, Model};
-use crate::edits::{Condition, Edit};
+use crate::edits::Edit;
 use crate::library::{Lent, Library};
 use crate::model::{self, Graph};
 use crate::questions::Sheet;
@@ -178,8 +178,8 @@ impl Right<'_> {
     }
 
     /// Whether a condition of edits holds, on a sheet of the right length.
-    pub fn meets(&self, (_, holds): (u64, Condition)) -> bool {
-        self.edit().is_some_and(|edit| holds(&edit, self.n, &self.before.sheet))
+    pub fn meets(&self, holds: fn(&Edit, &Sheet) -> bool) -> bool {
+        self.edit().is_some_and(|edit| holds(&edit, &self.sheet()))
     }
 
     /// The number of set bits in all rows before the call, on a sheet of the right length.

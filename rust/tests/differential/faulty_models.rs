@@ -2,15 +2,15 @@
 //! tables, then the rules that they name.
 
 use crate::call::{accepted, refused, Buffers, Call, Edges};
-use crate::edits::{self, Direction, Edit, Formula, Terms, CYCLE, DELETION, INSERTION, PRESENT, SELF_LOOP};
+use crate::edits::{after_deletion, after_insertion, Edit, Formula, Terms};
 use crate::faulty::{faults, Fault, Right, ANY};
 use crate::graphs;
 use crate::listing::LIST;
 use crate::lists::{BOOK, START};
 use crate::model;
 use crate::plan_cases::{UNDONE, WRITTEN};
-use crate::plans::{self, Reading, READING, RECORD};
-use crate::questions::{Passing, Sheet, Step, PASSING};
+use crate::plans::RECORD;
+use crate::questions::Sheet;
 use crate::recurrence;
 use lugloquat::sys::Answer;
 use std::num::Wrapping;
@@ -33,7 +33,7 @@ pub const OF_CALLS: &[Fault] = faults! {
         words: "the last one stays", last_word_stays;
     }
     "insert_edge" {
-        order: "a cycle is looked for before an edge already there", (6, 8, |right| right.meets(CYCLE));
+        order: "a cycle is looked for before an edge already there", (6, 8, |right| right.meets(Edit::closes_cycle));
         value: "bits at n and above are not counted", bits_below_n;
         words: "the products are those of the low halves", |right, words| recompute(right, words, of_low_halves);
     }
@@ -43,7 +43,7 @@ pub const OF_CALLS: &[Fault] = faults! {
         words: "a count stops at 0", |right, words| recompute(right, words, stopping_at_0);
     }
     "insert_edges_at" {
-        order: "an edge already there is looked for before one from a vertex to itself", (5, 6, |right| right.meets(PRESENT));
+        order: "an edge already there is looked for before one from a vertex to itself", (5, 6, |right| right.meets(Edit::has_edge_there));
         value: "bits at n and above are not counted", bits_below_n;
         words: "the last one stays", last_word_stays;
     }
@@ -177,7 +177,7 @@ fn recompute(right: &Right, words: &mut [u64], rule: fn(Formula, &Terms, &Terms)
         return;
     };
     let inserts = matches!(right.call, Call::Insert(_));
-    let formula = if inserts { INSERTION.count } else { DELETION.count };
+    let formula: Formula = if inserts { after_insertion } else { after_deletion };
     let old = model::stored_counts(right.n, &right.before.sheet);
     let mut now = old.clone();
     for (i, j) in (0..right.n).flat_map(|i| (0..right.n).map(move |j| (i, j))) {
@@ -244,15 +244,21 @@ fn first_vertex_is_written(right: &Right, path: &mut [u8]) {
     }
 }
 
+/// The last step is a path of its own, and its number is the sum of the counts passed over in it.
 fn rank_without_last_step(right: &Right, _: &Buffers) -> u64 {
-    let over = |sheet: &Sheet, step: Step, b: usize| step.y != step.last && (PASSING.over)(sheet, step, b);
-    Passing { over, ..PASSING }.sum(&right.sheet(), &right.before.bytes)
+    let mut last_step = right.before.clone();
+    if let [.., x, y] = last_step.bytes[..] {
+        last_step.bytes = vec![x, y];
+    }
+    let passed_over = model::answer(right.n, right.call, &mut last_step).value;
+    right.answer.value.wrapping_sub(passed_over)
 }
 
-/// Whether the record would be refused by 3 if its line feed were not looked at.
+/// Whether the record would be refused by 3 if it ended in a line feed.
 fn has_record_with_vertex_to_refuse(right: &Right) -> bool {
-    let reading = Reading { end: |_| true, ..READING };
-    let answer = plans::read(right.n, &mut right.before.clone(), &reading);
+    let mut ended = right.before.clone();
+    ended.bytes[RECORD * right.answer.place as usize - 1] = b'\n';
+    let answer = model::answer(right.n, right.call, &mut ended);
     (answer.number, answer.place) == (3, right.answer.place)
 }
 
@@ -322,20 +328,14 @@ fn missing_edge_is_let_in(right: &Right, answer: &mut Answer, _: &mut Buffers) {
     }
 }
 
+/// Looks for a cycle as if every count from a vertex to itself were 0.
 fn shared_vertex_is_let_in(right: &Right, answer: &mut Answer, left: &mut Buffers) {
-    let conditions = &[SELF_LOOP, PRESENT, (8, closes_cycle_of_edges_there)];
-    if let Call::Insert(edges) = right.call {
-        left.clone_from(right.before);
-        let verdict = edits::edit(right.n, &mut left.sheet, edges, &Direction { conditions, ..INSERTION });
-        *answer = verdict.map_or_else(refused, accepted);
+    let (8, Some(edit)) = (right.answer.number, right.edit()) else {
+        return;
+    };
+    let mut words = right.before.sheet.clone();
+    (0..right.n).for_each(|i| words[model::count_index(right.n, i, i)] = 0);
+    if !edit.closes_cycle(&Sheet { n: right.n, words: &words }) {
+        *answer = accepted(edit.enter(right.n, &mut left.sheet));
     }
-}
-
-/// Whether an edge that is there is part of a cycle that the edit closes, by the counts.
-fn closes_cycle_of_edges_there(edit: &Edit, n: usize, sheet: &[u64]) -> bool {
-    let leads = |b: usize, a: usize| a != b && sheet[model::count_index(n, b, a)] != 0;
-    let through_v = |b: usize| edit.predecessors.iter().any(|&a| leads(b, a));
-    edits::closes_cycle_into_v(edit, n, sheet)
-        || edits::closes_cycle_out_of_v(edit, n, sheet)
-        || edit.successors.iter().any(|&b| through_v(b))
 }

@@ -4,9 +4,9 @@
 //! edge runs forward.
 
 use crate::call::{accepted, refused, Buffers, Call};
-use crate::edits::{self, DELETION, INSERTION};
-use crate::plans::{self, READING, WRITING};
-use crate::questions::{self, PASSING, WALK};
+use crate::edits;
+use crate::plans;
+use crate::questions;
 use lugloquat::sys::Answer;
 
 /// `graph[i][j]` is whether an edge runs from i to j.
@@ -25,16 +25,16 @@ pub type Verdict = Result<u64, u64>;
 pub fn answer(n: usize, call: &Call, lent: &mut Buffers) -> Answer {
     let verdict = match *call {
         Call::Empty => empty(n, &mut lent.sheet),
-        Call::Insert(edges) => edits::edit(n, &mut lent.sheet, &edges, &INSERTION),
-        Call::Delete(edges) => edits::edit(n, &mut lent.sheet, &edges, &DELETION),
+        Call::Insert(edges) => edits::insert(n, &mut lent.sheet, &edges),
+        Call::Delete(edges) => edits::delete(n, &mut lent.sheet, &edges),
         Call::PathCount { from, to } => path_count(n, &lent.sheet, from, to),
         Call::ReachesWithout { from, to, edge_from, edge_to } => {
             questions::reaches_without(n, &lent.sheet, (from, to), (edge_from, edge_to))
         }
-        Call::Unrank { from, to, k } => questions::unrank(n, &lent.sheet, (from, to), k, &mut lent.bytes, &WALK),
-        Call::Rank => questions::rank(n, &lent.sheet, &lent.bytes, &PASSING),
-        Call::ReadPlan => return plans::read(n, lent, &READING),
-        Call::WritePlan => plans::write(n, &lent.sheet, &mut lent.bytes, &WRITING),
+        Call::Unrank { from, to, k } => questions::unrank(n, &lent.sheet, (from, to), k, &mut lent.bytes),
+        Call::Rank => questions::rank(n, &lent.sheet, &lent.bytes),
+        Call::ReadPlan => return plans::read(n, lent),
+        Call::WritePlan => plans::write(n, &lent.sheet, &mut lent.bytes),
         Call::Recount => recount(n, &mut lent.sheet),
         Call::Validate => validate(n, &lent.sheet),
     };

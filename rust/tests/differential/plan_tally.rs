@@ -5,7 +5,7 @@ use crate::compare::Case;
 use crate::model;
 use crate::plan_cases::READ_BACK;
 use crate::planned;
-use crate::plans::{is_of_bad_length, Reading, Record, MOST, READING, RECORD};
+use crate::plans::{self, is_of_bad_length, MOST, RECORD};
 use lugloquat::sys::Answer;
 use std::collections::BTreeMap;
 
@@ -29,10 +29,10 @@ const OF_READING: Ways = &[
     ("accepted, 4,096 records", |plan| plan.is(0) && plan.records() == 4_096),
     ("9, no record", |plan| plan.is(9) && plan.bytes.is_empty()),
     ("2, and a length to refuse", |plan| {
-        plan.is(2) && is_of_bad_length(plan.bytes.len(), MOST)
+        plan.is(2) && is_of_bad_length(plan.bytes.len())
     }),
     ("9, and a length to refuse", |plan| {
-        plan.is(9) && is_of_bad_length(plan.bytes.len(), MOST)
+        plan.is(9) && is_of_bad_length(plan.bytes.len())
     }),
     ("13, under 32,768 bytes", |plan| plan.is(13) && plan.bytes.len() < MOST),
     ("13, 32,769 bytes", |plan| plan.is(13) && plan.bytes.len() == MOST + 1),
@@ -79,14 +79,6 @@ const OF_WRITING: Ways = &[
 /// A record.
 const FORM: [u8; RECORD] = *b"L 00 00\n";
 
-/// A reading that sees the vertices of a record that has not the form, where these are digits.
-const VERTICES_ALONE: Reading = Reading {
-    letter: |_| Some(true),
-    space: |_| true,
-    end: |_| true,
-    ..READING
-};
-
 impl Plan<'_> {
     fn is(&self, number: u64) -> bool {
         self.answer.number == number
@@ -111,14 +103,14 @@ impl Plan<'_> {
         self.is(14) && {
             let mut record = self.refused().to_vec();
             record[at] = FORM[at];
-            READING.record(&record).is_some()
+            plans::record(&record).is_some()
         }
     }
 
-    /// Whether the vertices of the refused record are n or more.
+    /// Whether the vertices of the refused record are n or more, where they are digits.
     fn outside(&self) -> [bool; 2] {
-        match VERTICES_ALONE.record(self.refused()) {
-            Some(Record { from, to, .. }) => [from >= self.n, to >= self.n],
+        match plans::vertices(self.refused()) {
+            Some((from, to)) => [from >= self.n, to >= self.n],
             None => [false, false],
         }
     }
