@@ -1,12 +1,12 @@
 //! The check that the two programs agree, in every answer and in every word and byte, before anything is measured.
 
 use crate::{
-    calls::{Answer, Call, OURS, PLAIN},
     cases::{self, Case},
-    plain::{add_counts, count_from_scratch},
-    rng::Rng,
+    plain::{add_counts, count_from_scratch, PLAIN},
     work::Work,
 };
+use calls::{rng::Rng, Call, Program, Slices, OURS};
+use lugloquat::sys::Answer;
 use std::collections::BTreeMap;
 
 /// The seed of the random calls.
@@ -42,35 +42,30 @@ impl Sheets {
         let margin = vec![0x55; MARGIN + shift];
         let mut ours_bytes = [&margin, bytes, &margin].concat();
         let mut plain_bytes = ours_bytes.clone();
-        let (words_end, bytes_end) = (self.ours.len() - MARGIN, MARGIN + shift + bytes.len());
-        let ours = OURS.make(
-            call,
-            n,
-            &mut self.ours[MARGIN..words_end],
-            &mut ours_bytes[MARGIN + shift..bytes_end],
-        );
-        let plain = PLAIN.make(
-            call,
-            n,
-            &mut self.plain[MARGIN..words_end],
-            &mut plain_bytes[MARGIN + shift..bytes_end],
-        );
+        let (words, place) = (MARGIN..self.ours.len() - MARGIN, MARGIN + shift..MARGIN + shift + bytes.len());
+        let make = |program: &Program, sheet: &mut [u64], bytes: &mut [u8]| {
+            let (sheet, bytes) = (&mut sheet[words.clone()], &mut bytes[place.clone()]);
+            program.make(n, &call, Slices { sheet, bytes })
+        };
+        let ours = make(&OURS, &mut self.ours, &mut ours_bytes);
+        let plain = make(&PLAIN, &mut self.plain, &mut plain_bytes);
         if ours == plain && self.ours == self.plain && ours_bytes == plain_bytes {
             return Ok(ours);
         }
-        let words = (0..self.ours.len())
-            .filter(|&word| self.ours[word] != self.plain[word])
-            .count();
-        let unlike = (0..ours_bytes.len())
-            .filter(|&byte| ours_bytes[byte] != plain_bytes[byte])
-            .count();
         Err(format!(
-            "{call:?}, n {n}, {} words, bytes {bytes:?}:\n{} {ours:?}\n{} {plain:?}\n{words} words and {unlike} bytes differ",
-            words_end - MARGIN,
+            "{call:?}, n {n}, {} words, bytes {bytes:?}:\n{} {ours:?}\n{} {plain:?}\n{} words and {} bytes differ",
+            words.len(),
             OURS.name,
-            PLAIN.name
+            PLAIN.name,
+            unlike(&self.ours, &self.plain),
+            unlike(&ours_bytes, &plain_bytes)
         ))
     }
+}
+
+/// In how many places the two differ.
+fn unlike<T: PartialEq>(one: &[T], other: &[T]) -> usize {
+    one.iter().zip(other).filter(|(a, b)| a != b).count()
 }
 
 /// Compares random calls, refused ones included.
@@ -123,43 +118,24 @@ mod tests {
     use super::*;
     use crate::graphs;
 
-    /// Every call, with all numbers that the header lists for it.
-    const NUMBERS: [(&str, &[u64]); 13] = [
-        ("empty", &[0, 1, 2]),
-        ("insert_edge", &[0, 1, 2, 3, 5, 6, 8]),
-        ("delete_edge", &[0, 1, 2, 3, 7]),
-        ("insert_edges_at", &[0, 1, 2, 3, 4, 5, 6, 8]),
-        ("delete_edges_at", &[0, 1, 2, 3, 4, 7]),
-        ("path_count", &[0, 1, 2, 3]),
-        ("reaches_without", &[0, 1, 2, 3, 7]),
-        ("unrank", &[0, 1, 2, 3, 9, 10, 11]),
-        ("rank", &[0, 1, 2, 3, 12]),
-        ("read_plan", &[0, 1, 2, 3, 5, 6, 7, 8, 9, 13, 14]),
-        ("write_plan", &[0, 1, 2, 9, 10]),
-        ("recount", &[0, 1, 2, 4, 8]),
-        ("validate", &[0, 1, 2]),
-    ];
-
     #[test]
     fn random_calls_agree_and_every_number_comes_up() {
         let tally = at_random(40_000).unwrap_or_else(|what| panic!("{what}"));
-        for (call, numbers) in NUMBERS {
-            let came_up: Vec<u64> = tally
-                .keys()
-                .filter(|(name, _)| *name == call)
-                .map(|(_, number)| *number)
-                .collect();
-            assert_eq!(came_up, numbers, "the numbers by which {call} answered");
+        for about in calls::ALL {
+            let mut numbers = [&[0], about.refusals].concat();
+            numbers.sort();
+            let of_call = tally.keys().filter(|(name, _)| *name == about.name);
+            let came_up: Vec<u64> = of_call.map(|(_, number)| *number).collect();
+            assert_eq!(came_up, numbers, "the numbers by which {} answered", about.name);
         }
     }
 
     #[test]
     fn timed_calls_agree() {
         for n in [4, 8, 16, 32, 64] {
-            graphs::all(n)
-                .map(Work::new)
-                .iter()
-                .for_each(|work| on(work).unwrap_or_else(|what| panic!("{what}")));
+            for graph in graphs::all(n) {
+                on(&Work::new(graph)).unwrap_or_else(|what| panic!("{what}"));
+            }
         }
     }
 }

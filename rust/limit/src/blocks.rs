@@ -1,12 +1,17 @@
 //! The blocks of work that are timed. Every block leaves the words as they were.
 
 use crate::{
-    calls::{Program, OURS, PLAIN},
-    plain::{add_counts, count_from_scratch},
+    plain::{add_counts, count_from_scratch, PLAIN},
     timing::{take_turns, Bytes, Contender, Spent, Words},
-    work::{Work, PATH},
+    work::{At, Work, PATH},
 };
-use std::{hint::black_box, time::Instant};
+use calls::{Call, Edges, Program, Slices, OURS};
+use lugloquat::sys::Answer;
+use std::{
+    hint::black_box,
+    ops::Range,
+    time::{Duration, Instant},
+};
 
 /// The words and bytes of one contender. Of a small sheet there are several copies, one after the other, so that one pass over
 /// them takes long enough to be timed.
@@ -23,7 +28,19 @@ impl Desk {
     pub fn new(work: &Work) -> Desk {
         let words = work.sheet.len();
         let sheets = Words::new(&work.sheet.repeat((FILLED / words).max(1)));
-        Desk { sheets, bytes: Bytes::new(8 * lugloquat::EDGES), words }
+        let bytes = Bytes::new(work.paths.len().max(work.plan.len()));
+        Desk { sheets, bytes, words }
+    }
+
+    /// Puts these bytes at the beginning of the contender's, and lends them with the first sheet.
+    fn with(&mut self, bytes: &[u8]) -> (&mut [u64], &mut [u8]) {
+        let (sheet, lent) = (&mut self.sheets[..self.words], &mut self.bytes[..bytes.len()]);
+        lent.copy_from_slice(bytes);
+        (sheet, lent)
+    }
+
+    fn sheet(&mut self) -> &mut [u64] {
+        &mut self.sheets[..self.words]
     }
 
     fn copies(&self) -> usize {
@@ -60,128 +77,118 @@ pub fn against(work: &Work, block: Block, beside: bool, runs: usize) -> Vec<[f64
 
 /// Deletes edges, and inserts them again.
 pub fn edges(program: &Program, desk: &mut Desk, work: &Work, rounds: usize) -> Spent {
-    let (n, words, mut sum, mut spent) = (work.n(), desk.words, 0, Spent::default());
-    for _ in 0..rounds {
-        let start = Instant::now();
-        for sheet in desk.sheets.chunks_exact_mut(words) {
-            for &(from, to) in &work.edges {
-                sum += program.delete_edge(n, sheet, from, to).value;
-            }
-        }
-        let between = Instant::now();
-        for sheet in desk.sheets.chunks_exact_mut(words) {
-            for &(from, to) in work.edges.iter().rev() {
-                sum += program.insert_edge(n, sheet, from, to).value;
-            }
-        }
-        spent.parts[1] += between.elapsed();
-        spent.parts[0] += between - start;
-    }
-    black_box(sum);
-    desk.check(work);
-    Spent { calls: rounds * work.edges.len() * desk.copies(), ..spent }
+    edits(program, desk, work, rounds, &work.edges, |&(from, to)| Edges::one(from, to))
 }
 
 /// Deletes all edges at some vertices, and inserts them again.
 pub fn vertices(program: &Program, desk: &mut Desk, work: &Work, rounds: usize) -> Spent {
-    let (n, words, mut sum, mut spent) = (work.n(), desk.words, 0, Spent::default());
+    let named = |&(v, predecessors, successors): &At| Edges::at(v, predecessors, successors);
+    edits(program, desk, work, rounds, &work.vertices, named)
+}
+
+/// Deletes the edges that each of the things names, and inserts them again from the last on, on every copy of the sheet.
+fn edits<T>(program: &Program, desk: &mut Desk, work: &Work, rounds: usize, things: &[T], named: impl Fn(&T) -> Edges) -> Spent {
+    let (n, mut spent) = (work.n(), Spent::default());
     for _ in 0..rounds {
-        let start = Instant::now();
-        for sheet in desk.sheets.chunks_exact_mut(words) {
-            for &(v, predecessors, successors) in &work.vertices {
-                sum += program.delete_edges_at(n, sheet, v, predecessors, successors).value;
-            }
-        }
-        let between = Instant::now();
-        for sheet in desk.sheets.chunks_exact_mut(words) {
-            for &(v, predecessors, successors) in work.vertices.iter().rev() {
-                sum += program.insert_edges_at(n, sheet, v, predecessors, successors).value;
-            }
-        }
-        spent.parts[1] += between.elapsed();
-        spent.parts[0] += between - start;
+        spent.parts[0] += on_copies(program, desk, n, things.iter(), |thing| Call::Delete(named(thing)));
+        spent.parts[1] += on_copies(program, desk, n, things.iter().rev(), |thing| Call::Insert(named(thing)));
     }
-    black_box(sum);
     desk.check(work);
-    Spent { calls: rounds * work.vertices.len() * desk.copies(), ..spent }
+    Spent { calls: rounds * things.len() * desk.copies(), ..spent }
+}
+
+/// Makes the call of each of the things on every copy of the sheet, and says how long that took.
+fn on_copies<T>(
+    program: &Program,
+    desk: &mut Desk,
+    n: usize,
+    things: impl Iterator<Item = T> + Clone,
+    call: impl Fn(T) -> Call,
+) -> Duration {
+    let (words, start) = (desk.words, Instant::now());
+    for sheet in desk.sheets.chunks_exact_mut(words) {
+        let make = |thing| program.make(n, &call(thing), Slices::of_sheet(sheet));
+        black_box(once(things.clone(), make));
+    }
+    start.elapsed()
+}
+
+/// Makes a call for each of the things, so many times over. Beside what was spent stands the sum of the values.
+fn each<T>(things: impl ExactSizeIterator<Item = T> + Clone, rounds: usize, mut make: impl FnMut(T) -> Answer) -> (Spent, u64) {
+    let mut sum = 0u64;
+    let start = Instant::now();
+    for _ in 0..rounds {
+        sum = sum.wrapping_add(once(things.clone(), &mut make));
+    }
+    let sum = black_box(sum);
+    (Spent::since(start, rounds * things.len()), sum)
+}
+
+/// Makes a call for each of the things, and adds up the values. It stands alone so that its loop has the registers to itself.
+#[inline(never)]
+fn once<T>(things: impl Iterator<Item = T>, mut make: impl FnMut(T) -> Answer) -> u64 {
+    things.fold(0, |sum: u64, thing| sum.wrapping_add(make(thing).value))
 }
 
 pub fn validate(program: &Program, desk: &mut Desk, work: &Work, rounds: usize) -> Spent {
-    let (n, sheet) = (work.n(), &desk.sheets[..desk.words]);
-    let start = Instant::now();
-    let sum: u64 = (0..rounds).map(|_| program.validate(n, sheet).value).sum();
-    let spent = Spent::since(start, rounds);
+    let (n, sheet) = (work.n(), desk.sheet());
+    let make = move |()| program.make(n, &Call::Validate, Slices::of_sheet(sheet));
+    let (spent, sum) = each([()].into_iter(), rounds, make);
     assert_eq!(sum, rounds as u64, "the sheet is valid");
     spent
 }
 
 /// The counts are right beforehand; all of them are written all the same.
 pub fn recount(program: &Program, desk: &mut Desk, work: &Work, rounds: usize) -> Spent {
-    let (n, sheet) = (work.n(), &mut desk.sheets[..desk.words]);
-    let start = Instant::now();
-    let sum: u64 = (0..rounds).map(|_| program.recount(n, sheet).value).sum();
-    let spent = Spent::since(start, rounds);
-    black_box(sum);
+    let (n, sheet) = (work.n(), desk.sheet());
+    let make = move |()| program.make(n, &Call::Recount, Slices::of_sheet(sheet));
+    let (spent, _) = each([()].into_iter(), rounds, make);
     desk.check(work);
     spent
 }
 
 /// Every pair of vertices.
 pub fn path_count(program: &Program, desk: &mut Desk, work: &Work, rounds: usize) -> Spent {
-    let (n, sheet, mut sum) = (work.n(), &desk.sheets[..desk.words], 0u64);
-    let start = Instant::now();
-    for _ in 0..rounds {
-        for &(from, to) in &work.pairs {
-            sum = sum.wrapping_add(program.path_count(n, sheet, from, to).value);
-        }
-    }
-    black_box(sum);
-    Spent::since(start, rounds * work.pairs.len())
+    let (n, sheet) = (work.n(), desk.sheet());
+    let make = move |&(from, to): &(usize, usize)| program.make(n, &Call::PathCount { from, to }, Slices::of_sheet(sheet));
+    each(work.pairs.iter(), rounds, make).0
 }
 
 pub fn reaches_without(program: &Program, desk: &mut Desk, work: &Work, rounds: usize) -> Spent {
-    let (n, sheet, mut sum) = (work.n(), &desk.sheets[..desk.words], 0);
-    let start = Instant::now();
-    for _ in 0..rounds {
-        for &question in &work.without {
-            sum += program.reaches_without(n, sheet, question).value;
-        }
-    }
-    black_box(sum);
-    Spent::since(start, rounds * work.without.len())
+    let (n, sheet) = (work.n(), desk.sheet());
+    let make = move |&[from, to, edge_from, edge_to]: &[usize; 4]| {
+        let call = Call::ReachesWithout { from, to, edge_from, edge_to };
+        program.make(n, &call, Slices::of_sheet(sheet))
+    };
+    each(work.without.iter(), rounds, make).0
 }
 
 pub fn unrank(program: &Program, desk: &mut Desk, work: &Work, rounds: usize) -> Spent {
-    let (n, sheet, path, mut sum) = (work.n(), &desk.sheets[..desk.words], &mut desk.bytes[..PATH], 0);
-    let start = Instant::now();
-    for _ in 0..rounds {
-        for &(from, to, k) in &work.numbers {
-            sum += program.unrank(n, sheet, from, to, k, path).value;
-        }
-    }
-    black_box(sum);
-    Spent::since(start, rounds * work.numbers.len())
+    let (n, (sheet, bytes)) = (work.n(), desk.with(&[0; PATH]));
+    let make = move |&(from, to, k): &(usize, usize, u64)| {
+        let call = Call::Unrank { from, to, k };
+        program.make(n, &call, Slices { sheet, bytes })
+    };
+    each(work.numbers.iter(), rounds, make).0
 }
 
 pub fn rank(program: &Program, desk: &mut Desk, work: &Work, rounds: usize) -> Spent {
-    let (n, sheet, mut sum) = (work.n(), &desk.sheets[..desk.words], 0u64);
-    let start = Instant::now();
-    for _ in 0..rounds {
-        for i in 0..work.lengths.len() {
-            sum = sum.wrapping_add(program.rank(n, sheet, work.path(i)).value);
-        }
-    }
-    black_box(sum);
-    Spent::since(start, rounds * work.lengths.len())
+    let (n, (sheet, paths)) = (work.n(), desk.with(&work.paths));
+    let make = move |place: &Range<usize>| {
+        let bytes = &mut paths[place.clone()];
+        program.make(n, &Call::Rank, Slices { sheet, bytes })
+    };
+    each(work.places.iter(), rounds, make).0
 }
 
 /// Reads the whole graph onto the empty sheet, which is made so while the clock doesn't count.
 pub fn read_plan(program: &Program, desk: &mut Desk, work: &Work, rounds: usize) -> Spent {
-    let (n, sheet, mut sum, mut spent) = (work.n(), &mut desk.sheets[..desk.words], 0, Spent::default());
+    let (mut sum, mut spent) = (0, Spent::default());
+    let (n, (sheet, bytes)) = (work.n(), desk.with(&work.plan));
     for _ in 0..rounds {
-        sum += program.empty(n, sheet).value;
+        sum += program.make(n, &Call::Empty, Slices::of_sheet(sheet)).value;
         let start = Instant::now();
-        sum += program.read_plan(n, sheet, &work.plan).value;
+        sum += program.make(n, &Call::ReadPlan, Slices { sheet, bytes }).value;
         spent.parts[0] += start.elapsed();
     }
     black_box(sum);
@@ -190,17 +197,14 @@ pub fn read_plan(program: &Program, desk: &mut Desk, work: &Work, rounds: usize)
 }
 
 pub fn write_plan(program: &Program, desk: &mut Desk, work: &Work, rounds: usize) -> Spent {
-    let (n, sheet, plan) = (work.n(), &desk.sheets[..desk.words], &mut desk.bytes);
-    let start = Instant::now();
-    let sum: u64 = (0..rounds).map(|_| program.write_plan(n, sheet, plan).value).sum();
-    let spent = Spent::since(start, rounds);
-    black_box(sum);
-    spent
+    let (n, (sheet, bytes)) = (work.n(), desk.with(&work.plan));
+    let make = move |()| program.make(n, &Call::WritePlan, Slices { sheet, bytes });
+    each([()].into_iter(), rounds, make).0
 }
 
 /// Works all counts out from scratch.
 pub fn scratch(desk: &mut Desk, work: &Work, rounds: usize) -> Spent {
-    let sheet = &mut desk.sheets[..desk.words];
+    let sheet = desk.sheet();
     let start = Instant::now();
     (0..rounds).for_each(|_| count_from_scratch(work.n(), sheet));
     let spent = Spent::since(start, rounds);
@@ -210,7 +214,7 @@ pub fn scratch(desk: &mut Desk, work: &Work, rounds: usize) -> Spent {
 
 /// Reads and adds up all counts.
 pub fn floor(desk: &mut Desk, work: &Work, rounds: usize) -> Spent {
-    let sheet = &desk.sheets[..desk.words];
+    let sheet = desk.sheet();
     let start = Instant::now();
     let sum = (0..rounds).fold(0u64, |sum, _| sum.wrapping_add(add_counts(work.n(), sheet)));
     black_box(sum);

@@ -1,6 +1,7 @@
 //! Random sheets and random calls, good and bad, on which the two programs have to agree.
 
-use crate::{calls::Call, draw::View, graphs::Graph, rng::Rng};
+use crate::{draw::View, graphs::Graph};
+use calls::{rng::Rng, Call, Edges};
 
 /// A number of vertices and a sheet, of any length and any words, and an order of the vertices: on a sheet made from a graph its
 /// edges run from earlier ones to later ones.
@@ -14,8 +15,7 @@ impl Case {
     pub fn new(rng: &mut Rng) -> Case {
         let n = vertices(rng);
         let m = n.clamp(1, 66);
-        let mut order: Vec<usize> = (0..m.min(64)).collect();
-        rng.shuffle(&mut order);
+        let order = rng.shuffled(m.min(64));
         let mut sheet = words(rng, m, &order);
         if rng.percent(4) {
             let length = rng.pick(&[0, m, m * m, sheet.len() - 1, sheet.len() + 1, 4160, 4161]);
@@ -107,19 +107,19 @@ fn edit(rng: &mut Rng, view: &View) -> Call {
         0..2 => Call::Empty,
         2..30 => {
             let (from, to) = view.edge_to_insert(rng);
-            Call::InsertEdge { from, to }
+            Call::Insert(Edges::one(from, to))
         }
         30..50 => {
             let (from, to) = view.edge_there(rng);
-            Call::DeleteEdge { from, to }
+            Call::Delete(Edges::one(from, to))
         }
         50..80 => {
             let (v, predecessors, successors) = view.edges_to_insert(rng);
-            Call::InsertEdgesAt { v, predecessors, successors }
+            Call::Insert(Edges::at(v, predecessors, successors))
         }
         _ => {
             let (v, predecessors, successors) = view.edges_to_delete(rng);
-            Call::DeleteEdgesAt { v, predecessors, successors }
+            Call::Delete(Edges::at(v, predecessors, successors))
         }
     }
 }

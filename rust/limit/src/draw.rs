@@ -1,6 +1,7 @@
 //! The arguments of a random call, drawn so that most calls have something to do and every refusal comes up.
 
-use crate::{cases::Case, rng::Rng};
+use crate::cases::Case;
+use calls::rng::Rng;
 
 /// What is drawn from: a sheet as it stands, which need not be one.
 pub struct View<'a> {
@@ -127,7 +128,7 @@ impl<'a> View<'a> {
         } else {
             rng.below(self.m)
         };
-        noise(rng, length)
+        rng.bytes(length)
     }
 
     /// A walk along edges, seldom with a wrong byte, none at all, or too long.
@@ -183,12 +184,8 @@ impl<'a> View<'a> {
     pub fn room_for_plan(&self, rng: &mut Rng) -> Vec<u8> {
         let (exact, more) = (8 * self.edge_count(), rng.below(20));
         let length = rng.pick(&[exact, exact, exact + more, exact.saturating_sub(1), 8 * 2016]);
-        noise(rng, length)
+        rng.bytes(length)
     }
-}
-
-fn noise(rng: &mut Rng, length: usize) -> Vec<u8> {
-    (0..length).map(|_| rng.word() as u8).collect()
 }
 
 /// A bit of the mask, which is not 0.

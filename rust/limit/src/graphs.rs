@@ -1,6 +1,6 @@
 //! The three kinds of graph that are measured, and the sheet of a graph, counted here apart from both programs.
 
-use crate::rng::Rng;
+use calls::rng::Rng;
 
 /// The seed of the graphs.
 const SEED: u64 = 4_160;

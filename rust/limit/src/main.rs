@@ -8,20 +8,19 @@
 
 mod agree;
 mod blocks;
-mod calls;
 mod cases;
 mod draw;
 mod graphs;
 mod growth;
 mod plain;
-mod rng;
 mod script;
 mod stack;
 mod table;
 mod timing;
 mod work;
 
-use calls::{OURS, PLAIN};
+use calls::OURS;
+use plain::PLAIN;
 use std::{env, process::ExitCode};
 use work::Work;
 

@@ -2,11 +2,11 @@
 //! edges at vertices are deleted and inserted again, and now and then an edit is refused.
 
 use crate::{
-    calls::{Answer, Call, Program},
     graphs,
-    rng::Rng,
     work::{edge_edits, edges_at, vertex_edits},
 };
+use calls::{rng::Rng, Call, Edges, Program, Slices};
+use lugloquat::sys::Answer;
 use std::hint::black_box;
 
 const N: usize = 64;
@@ -69,7 +69,7 @@ extern "C" fn counted_edits(run: &mut Run) {
 #[inline(never)]
 fn apply(run: &mut Run) {
     for (edit, answer) in run.edits.iter().zip(run.answers.iter_mut()) {
-        *answer = run.program.make(*edit, N, run.sheet, &mut []);
+        *answer = run.program.make(N, edit, Slices::of_sheet(run.sheet));
     }
 }
 
@@ -89,9 +89,9 @@ fn script(graph: &graphs::Graph) -> Vec<Call> {
 /// An edit that is refused right after the one given: the same again, or, in every other place, an insertion the other way round.
 fn refused(edit: Call, place: usize) -> Call {
     match edit {
-        Call::InsertEdge { from, to } if place % 2 == 0 => Call::InsertEdge { from: to, to: from },
-        Call::InsertEdgesAt { v, predecessors, successors } if place % 2 == 0 => {
-            Call::InsertEdgesAt { v, predecessors: successors, successors: predecessors }
+        Call::Insert(Edges::One { from, to }) if place % 2 == 0 => Call::Insert(Edges::one(to, from)),
+        Call::Insert(Edges::At { v, predecessors, successors }) if place % 2 == 0 => {
+            Call::Insert(Edges::at(v, successors, predecessors))
         }
         _ => edit,
     }

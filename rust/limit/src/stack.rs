@@ -5,11 +5,12 @@
 //! passed on the stack do not. A byte counts once it is written. Two fillings are tried, since a call may write what is there.
 
 use crate::{
-    calls::{Answer, Call, Program, OURS, PLAIN},
     cases::{self, Case},
-    rng::Rng,
+    plain::PLAIN,
     work::Work,
 };
+use calls::{rng::Rng, Call, Program, Slices, OURS};
+use lugloquat::sys::Answer;
 use std::{arch::global_asm, collections::BTreeMap};
 
 /// The bytes of the stack.
@@ -58,22 +59,9 @@ struct Stack([u8; STACK]);
 
 /// The argument words of a call.
 fn words(call: Call, n: usize, sheet: &mut [u64], bytes: &mut [u8]) -> [u64; ARGUMENTS] {
-    let lent = [bytes.as_mut_ptr() as u64, bytes.len() as u64];
-    let own: Vec<u64> = match call {
-        Call::Empty | Call::Recount | Call::Validate => vec![],
-        Call::InsertEdge { from, to } | Call::DeleteEdge { from, to } | Call::PathCount { from, to } => {
-            vec![from as u64, to as u64]
-        }
-        Call::InsertEdgesAt { v, predecessors, successors } | Call::DeleteEdgesAt { v, predecessors, successors } => {
-            vec![v as u64, predecessors, successors]
-        }
-        Call::ReachesWithout { from, to, edge_from, edge_to } => [from, to, edge_from, edge_to].map(|v| v as u64).to_vec(),
-        Call::Unrank { from, to, k } => vec![from as u64, to as u64, k, lent[0], lent[1]],
-        Call::Rank | Call::ReadPlan | Call::WritePlan => lent.to_vec(),
-    };
+    let arguments = call.arguments(n, Slices { sheet, bytes }.lent());
     let mut words = [0; ARGUMENTS];
-    words[..3].copy_from_slice(&[n as u64, sheet.as_mut_ptr() as u64, sheet.len() as u64]);
-    words[3..3 + own.len()].copy_from_slice(&own);
+    words[..arguments.len()].copy_from_slice(&arguments);
     words
 }
 
@@ -91,7 +79,7 @@ fn depth(program: &Program, stack: &mut Stack, call: Call, n: usize, sheet: &mut
         // stack is lent too, its top is aligned, and that it was large enough is checked.
         unsafe {
             limit_on_stack(
-                program.address(call),
+                program.address(&call),
                 stack.0.as_mut_ptr_range().end,
                 words.as_ptr(),
                 &mut answer,

@@ -1,10 +1,8 @@
 //! What is done with a graph when its calls are timed: every argument, drawn beforehand.
 
-use crate::{
-    calls::{Call, OURS},
-    graphs::Graph,
-    rng::Rng,
-};
+use crate::graphs::Graph;
+use calls::{rng::Rng, Call, Edges};
+use std::ops::Range;
 
 const SEED: u64 = 1;
 const EDGES: usize = 48;
@@ -30,9 +28,9 @@ pub struct Work {
     pub without: Vec<[usize; 4]>,
     /// From, to, and the number of a path between them.
     pub numbers: Vec<(usize, usize, u64)>,
-    /// The paths with these numbers, each at a multiple of `PATH` bytes, and their lengths.
+    /// The paths with these numbers, each at a multiple of `PATH` bytes, and where each stands.
     pub paths: Vec<u8>,
-    pub lengths: Vec<usize>,
+    pub places: Vec<Range<usize>>,
     /// The edges of the graph, as records.
     pub plan: Vec<u8>,
 }
@@ -48,7 +46,7 @@ impl Work {
         let vertices = edges_at(&graph, &mut rng, VERTICES);
         let without = (0..WITHOUT).map(|_| without(&mut rng, n, &all)).collect();
         let numbers = numbers(&mut rng, n, &sheet);
-        let (paths, lengths) = paths(n, &sheet, &numbers);
+        let (paths, places) = paths(n, &sheet, &numbers);
         let plan = all
             .iter()
             .flat_map(|(from, to)| format!("L {from:02} {to:02}\n").into_bytes())
@@ -62,18 +60,13 @@ impl Work {
             without,
             numbers,
             paths,
-            lengths,
+            places,
             plan,
         }
     }
 
     pub fn n(&self) -> usize {
         self.graph.n()
-    }
-
-    /// Path number i of the sample.
-    pub fn path(&self, i: usize) -> &[u8] {
-        &self.paths[i * PATH..][..self.lengths[i]]
     }
 
     /// The calls that are timed, with the bytes lent to each, in an order that ends with the sheet as it was.
@@ -90,7 +83,11 @@ impl Work {
                 .iter()
                 .map(|&(from, to, k)| (Call::Unrank { from, to, k }, vec![0; self.n()])),
         );
-        calls.extend((0..self.lengths.len()).map(|i| (Call::Rank, self.path(i).to_vec())));
+        calls.extend(
+            self.places
+                .iter()
+                .map(|place| (Call::Rank, self.paths[place.clone()].to_vec())),
+        );
         calls.push((Call::WritePlan, vec![0; self.plan.len()]));
         calls.push(bare(Call::Empty));
         calls.push((Call::ReadPlan, self.plan.clone()));
@@ -100,29 +97,27 @@ impl Work {
 
 /// The deletions of the edges, then the insertions that put them back.
 pub fn edge_edits(edges: &[(usize, usize)]) -> Vec<Call> {
-    let deleted = edges.iter().map(|&(from, to)| Call::DeleteEdge { from, to });
-    let inserted = edges.iter().rev().map(|&(from, to)| Call::InsertEdge { from, to });
-    deleted.chain(inserted).collect()
+    there_and_back(edges.iter().map(|&(from, to)| Edges::one(from, to)))
 }
 
 /// The deletions of all edges at the vertices, then the insertions that put them back.
 pub fn vertex_edits(vertices: &[At]) -> Vec<Call> {
-    let deleted = vertices
-        .iter()
-        .map(|&(v, predecessors, successors)| Call::DeleteEdgesAt { v, predecessors, successors });
-    let inserted = vertices
-        .iter()
-        .rev()
-        .map(|&(v, predecessors, successors)| Call::InsertEdgesAt { v, predecessors, successors });
-    deleted.chain(inserted).collect()
+    there_and_back(
+        vertices
+            .iter()
+            .map(|&(v, predecessors, successors)| Edges::at(v, predecessors, successors)),
+    )
+}
+
+/// The deletions in order, then the insertions from the last on.
+fn there_and_back(edges: impl DoubleEndedIterator<Item = Edges> + Clone) -> Vec<Call> {
+    edges.clone().map(Call::Delete).chain(edges.rev().map(Call::Insert)).collect()
 }
 
 /// Some vertices with the edges that each has when those of the ones before it are gone; a vertex without any is passed over.
 pub fn edges_at(graph: &Graph, rng: &mut Rng, most: usize) -> Vec<At> {
-    let (mut left, mut order) = (graph.clone(), (0..graph.n()).collect::<Vec<usize>>());
-    rng.shuffle(&mut order);
-    let mut vertices = Vec::new();
-    for v in order {
+    let (mut left, mut vertices) = (graph.clone(), Vec::new());
+    for v in rng.shuffled(graph.n()) {
         let (predecessors, successors) = (left.predecessors(v), left.rows[v]);
         if vertices.len() == most || predecessors | successors == 0 {
             continue;
@@ -151,13 +146,13 @@ fn numbers(rng: &mut Rng, n: usize, sheet: &[u64]) -> Vec<(usize, usize, u64)> {
     (0..NUMBERS).map(|_| number()).collect()
 }
 
-fn paths(n: usize, sheet: &[u64], numbers: &[(usize, usize, u64)]) -> (Vec<u8>, Vec<usize>) {
+fn paths(n: usize, sheet: &[u64], numbers: &[(usize, usize, u64)]) -> (Vec<u8>, Vec<Range<usize>>) {
     let mut bytes = vec![0; numbers.len() * PATH];
-    let found = |(path, &(from, to, k)): (&mut [u8], &(usize, usize, u64))| {
-        let answer = OURS.unrank(n, sheet, from, to, k, path);
-        assert_eq!(answer.number, 0, "path {k} from {from} to {to}");
-        answer.value as usize
+    let mut place = |(start, &(from, to, k)): (usize, &(usize, usize, u64))| {
+        let length = lugloquat::unrank(n, sheet, from, to, k, &mut bytes[start..][..PATH]);
+        let length = length.unwrap_or_else(|refusal| panic!("path {k} from {from} to {to}: {refusal}"));
+        start..start + length as usize
     };
-    let lengths = bytes.chunks_exact_mut(PATH).zip(numbers).map(found).collect();
-    (bytes, lengths)
+    let places = (0..).step_by(PATH).zip(numbers).map(&mut place).collect();
+    (bytes, places)
 }

@@ -3,8 +3,8 @@
 //! `LUGLOQUAT_SEED` gives another seed, `LUGLOQUAT_CALLS` another number of library calls, both in decimal. The exit status is
 //! not 0 if the library and the model disagree anywhere, if a fault put in on purpose goes unnoticed, or if too little came up.
 //!
-//! A further call is a variant of `Call` with its outcomes, a function of the model, a line for each way into the library, a
-//! generator of cases, and a fault of each kind that it can have.
+//! A further call is a variant and a row of the table in `calls/src/call.rs`, a function of the model, a generator of cases, and a
+//! fault of each kind that it can have.
 
 mod agreement;
 mod arguments;
@@ -32,12 +32,11 @@ mod planned;
 mod plans;
 mod questions;
 mod recurrence;
-mod rng;
 mod sheets;
 mod small_plans;
 mod tally;
 
-use rng::Rng;
+use calls::rng::{self, Rng};
 use std::{env, process::ExitCode, time::Instant};
 use tally::Tally;
 

@@ -1,6 +1,6 @@
 //! How often each outcome, each n and each kind of sheet and plan came up, and whether that is often enough.
 
-use crate::call::{Call, Outcome, ALLOWED};
+use crate::call::{Call, Outcome};
 use crate::compare::{Case, Compared};
 use crate::listing::LIST;
 use crate::lists::{BOOK, START};
@@ -20,7 +20,7 @@ pub struct Tally {
     pub calls: u64,
     /// The calls that are edits.
     pub edits: u64,
-    outcomes: Vec<u64>,
+    outcomes: Vec<(Outcome, u64)>,
     recounts: [u64; 65],
     edits_accepted: [u64; 65],
     questions_accepted: [u64; 65],
@@ -44,7 +44,7 @@ impl Tally {
             rounds: 0,
             calls: 0,
             edits: 0,
-            outcomes: vec![0; ALLOWED.len()],
+            outcomes: Outcome::allowed().into_iter().map(|outcome| (outcome, 0)).collect(),
             recounts: [0; 65],
             edits_accepted: [0; 65],
             questions_accepted: [0; 65],
@@ -62,12 +62,12 @@ impl Tally {
 
     /// Enters a case, or says that its outcome is not one that document 01 allows.
     pub fn enter(&mut self, case: &Case, compared: &Compared) -> Result<(), String> {
-        let outcome = case.call.outcome(&compared.answer);
-        let Some(at) = ALLOWED.iter().position(|allowed| *allowed == outcome) else {
+        let outcome = Outcome::of(&case.call, &compared.answer);
+        let Some((_, times)) = self.outcomes.iter_mut().find(|(allowed, _)| *allowed == outcome) else {
             return Err(format!("{case}\n  an outcome that document 01 does not allow: {outcome:?}"));
         };
+        *times += 1;
         self.calls += compared.calls;
-        self.outcomes[at] += 1;
         if !self.plans.enter(case, &compared.answer) {
             *self.kinds.entry(case.kind).or_default() += 1;
         }
@@ -80,7 +80,7 @@ impl Tally {
                 Call::Insert(_) | Call::Delete(_) => self.edits_accepted[case.n] += 1,
                 Call::ReadPlan => self.plans_read[case.n] += 1,
                 Call::WritePlan => self.plans_written[case.n] += 1,
-                _ if case.call.is_question() => self.questions_accepted[case.n] += 1,
+                _ if QUESTIONS.contains(&outcome.call) => self.questions_accepted[case.n] += 1,
                 _ => (),
             }
         }
@@ -102,7 +102,7 @@ impl Tally {
 
     pub fn print(&self) {
         println!("{:<17}{:>8}{:>8}{:>10}", "call", "number", "value", "cases");
-        for (Outcome { call, number, said }, times) in ALLOWED.iter().zip(&self.outcomes) {
+        for (Outcome { call, number, said }, times) in &self.outcomes {
             let said = said.map_or(String::new(), |value| value.to_string());
             println!("{call:<17}{number:>8}{said:>8}{times:>10}");
         }
@@ -145,8 +145,8 @@ impl Tally {
 
     /// Whether everything came up that has to.
     pub fn check(&self) -> Result<(), String> {
-        for (outcome, &times) in ALLOWED.iter().zip(&self.outcomes) {
-            if times < LEAST {
+        for (outcome, times) in &self.outcomes {
+            if *times < LEAST {
                 return Err(format!("{outcome:?} came up {times} times, fewer than {LEAST}"));
             }
         }

@@ -1,4 +1,4 @@
-//! A seeded generator of words (splitmix64), so that a seed and the number of a round give that round again.
+//! A seeded generator of words (splitmix64), so that every run with the same seed draws the same.
 
 pub struct Rng(u64);
 
@@ -39,6 +39,11 @@ impl Rng {
         self.below(times) == 0
     }
 
+    /// True so many times in a hundred.
+    pub fn percent(&mut self, times: usize) -> bool {
+        self.below(100) < times
+    }
+
     pub fn pick<T: Copy>(&mut self, from: &[T]) -> T {
         from[self.below(from.len())]
     }
@@ -55,12 +60,17 @@ impl Rng {
         unreachable!("the number drawn is below the sum of the weights")
     }
 
+    /// Puts the things in a random order.
+    pub fn shuffle<T>(&mut self, things: &mut [T]) {
+        for last in (1..things.len()).rev() {
+            things.swap(last, self.below(last + 1));
+        }
+    }
+
     /// The numbers below n in a random order.
     pub fn shuffled(&mut self, n: usize) -> Vec<usize> {
         let mut order: Vec<usize> = (0..n).collect();
-        for last in (1..n).rev() {
-            order.swap(last, self.below(last + 1));
-        }
+        self.shuffle(&mut order);
         order
     }
 }
