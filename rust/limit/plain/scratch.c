@@ -4,22 +4,37 @@
 
 #include "scratch.h"
 
-/* The columns of a block: so many that their sums fit in the registers. */
-enum { BLOCK = 16 };
+enum {
+    VERTICES = 64, /* the most that a sheet has */
+    BLOCK = 16     /* the columns of a block: so many that their sums fit in the registers */
+};
 
-/* Puts the vertices in an order in which each comes after all of its successors. */
+/* Pushes vertices on the stack, beginning with one of `next`, until no edge leads from the last one to a vertex that is left. */
+static inline size_t descend(const uint64_t *rows, uint64_t left, uint64_t next, uint8_t *stack, size_t depth)
+{
+    while (next != 0) {
+        size_t v = VERTICES - 1 - (size_t)__builtin_clzll(next);
+        stack[depth++] = (uint8_t)v;
+        next = rows[v] & left;
+    }
+    return depth;
+}
+
+/*
+ * Puts the vertices in an order in which each comes after all of its successors, by depth-first search. The search goes along edges
+ * to vertices that are left; where it can't go on, the last vertex is taken away and entered in the order.
+ */
 static void find_order(size_t n, const uint64_t *rows, uint8_t *order)
 {
-    uint64_t left = UINT64_MAX >> (64 - n);
-    size_t taken = 0;
+    uint64_t left = UINT64_MAX >> (VERTICES - n);
+    uint8_t stack[VERTICES];
+    size_t depth = 0;
 
-    while (left != 0) {
-        for (size_t i = n; i-- > 0;) {
-            if ((left >> i & 1) != 0 && (rows[i] & left) == 0) {
-                left &= ~((uint64_t)1 << i);
-                order[taken++] = (uint8_t)i;
-            }
-        }
+    for (size_t taken = 0; taken < n; taken++) {
+        uint64_t next = depth == 0 ? left : rows[stack[depth - 1]] & left;
+        depth = descend(rows, left, next, stack, depth) - 1;
+        left &= ~((uint64_t)1 << stack[depth]);
+        order[taken] = stack[depth];
     }
 }
 
@@ -53,7 +68,7 @@ static inline void fill_block(size_t n, const uint64_t *rows, const uint8_t *ord
 void scratch_count(size_t n, uint64_t *sheet)
 {
     uint64_t *counts = sheet + n;
-    uint8_t order[64];
+    uint8_t order[VERTICES];
     find_order(n, sheet, order);
 
     if (n < BLOCK) {

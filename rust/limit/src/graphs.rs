@@ -1,9 +1,12 @@
-//! The three kinds of graph that are measured, and the sheet of a graph, counted here apart from both programs.
+//! The graphs that are measured, and the sheet of a graph, counted here apart from both programs.
 
 use calls::rng::Rng;
 
 /// The seed of the graphs.
 const SEED: u64 = 4_160;
+
+/// The name of the complete graph whose edges run from lower numbers to higher ones. The numbers of all other graphs are shuffled.
+pub const IN_ORDER: &str = "complete in order";
 
 /// A directed graph without a cycle, by its rows: bit j of row i is 1 exactly if an edge runs from i to j.
 #[derive(Clone)]
@@ -12,14 +15,20 @@ pub struct Graph {
     pub rows: Vec<u64>,
 }
 
-/// The three kinds at n vertices.
-pub fn all(n: usize) -> [Graph; 3] {
-    [complete(n), random(n), orchard(n)]
+/// The graphs of n vertices: the complete one in order, and those with shuffled numbers.
+pub fn all(n: usize) -> Vec<Graph> {
+    [vec![complete(IN_ORDER, n)], shuffled(n)].concat()
+}
+
+/// The graphs of n vertices with shuffled numbers.
+pub fn shuffled(n: usize) -> Vec<Graph> {
+    let numbers = Rng::new(SEED).shuffled(n);
+    vec![complete("complete", n).renumbered(&numbers), random(n), orchard(n)]
 }
 
 /// Every edge from i to j with i below j.
-pub fn complete(n: usize) -> Graph {
-    let mut graph = Graph { name: "complete", rows: vec![0; n] };
+fn complete(name: &'static str, n: usize) -> Graph {
+    let mut graph = Graph { name, rows: vec![0; n] };
     for from in 0..n {
         for to in from + 1..n {
             graph.insert(from, to);
@@ -28,7 +37,7 @@ pub fn complete(n: usize) -> Graph {
     graph
 }
 
-/// One in ten of the edges of the complete graph, its vertices renumbered at random. The seed is the first that gives an edge.
+/// One in ten of the edges of the complete graph, its numbers shuffled. The seed is the first that gives an edge.
 pub fn random(n: usize) -> Graph {
     (SEED..)
         .map(|seed| random_by(n, seed))
@@ -38,22 +47,19 @@ pub fn random(n: usize) -> Graph {
 
 fn random_by(n: usize, seed: u64) -> Graph {
     let mut rng = Rng::new(seed);
-    let mut number: Vec<usize> = (0..n).collect();
-    rng.shuffle(&mut number);
+    let numbers = rng.shuffled(n);
     let mut graph = Graph { name: "random", rows: vec![0; n] };
-    for from in 0..n {
-        for to in from + 1..n {
-            if rng.below(10) == 0 {
-                graph.insert(number[from], number[to]);
-            }
+    for (from, to) in complete("complete", n).edges() {
+        if rng.below(10) == 0 {
+            graph.insert(from, to);
         }
     }
-    graph
+    graph.renumbered(&numbers)
 }
 
 /// A sparse orchard: each vertex but 0 is supplied from one of the four before it, and for every 64 vertices there are 27 more
-/// supplies, each from any vertex with a lower number.
-pub fn orchard(n: usize) -> Graph {
+/// supplies, each from any vertex with a lower number. Then the numbers are shuffled.
+fn orchard(n: usize) -> Graph {
     let mut rng = Rng::new(SEED);
     let mut graph = Graph { name: "orchard", rows: vec![0; n] };
     for to in 1..n {
@@ -68,7 +74,7 @@ pub fn orchard(n: usize) -> Graph {
             second -= 1;
         }
     }
-    graph
+    graph.renumbered(&rng.shuffled(n))
 }
 
 impl Graph {
@@ -82,6 +88,15 @@ impl Graph {
 
     fn insert(&mut self, from: usize, to: usize) {
         self.rows[from] |= 1 << to;
+    }
+
+    /// The same graph, with these numbers for its vertices 0, 1 and so on.
+    fn renumbered(&self, numbers: &[usize]) -> Graph {
+        let mut graph = Graph { rows: vec![0; self.n()], ..*self };
+        for (from, to) in self.edges() {
+            graph.insert(numbers[from], numbers[to]);
+        }
+        graph
     }
 
     pub fn edges(&self) -> Vec<(usize, usize)> {

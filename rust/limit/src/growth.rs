@@ -1,4 +1,4 @@
-//! The times of the edits and of a validation as the graphs grow, as CSV for `plot`.
+//! The times of the edits and of a validation as the graphs with shuffled numbers grow, as CSV for `plot`.
 
 use crate::{
     blocks::{self, Block},

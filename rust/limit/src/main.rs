@@ -20,6 +20,8 @@ mod timing;
 mod work;
 
 use calls::OURS;
+use graphs::Graph;
+use lugloquat::VERTICES;
 use plain::PLAIN;
 use std::{env, process::ExitCode};
 use work::Work;
@@ -49,23 +51,27 @@ fn main() -> ExitCode {
     ExitCode::from(status)
 }
 
+fn works(graphs: impl IntoIterator<Item = Graph>) -> Vec<Work> {
+    graphs.into_iter().map(Work::new).collect()
+}
+
 fn table() -> Outcome {
     let runs = number("LIMIT_RUNS", RUNS)?;
-    let works = graphs::all(64).map(Work::new);
+    let works = works(graphs::all(VERTICES));
     println!("{}", check(&works)?);
     Ok(if table::print(&works, runs) { 0 } else { 1 })
 }
 
 fn growth() -> Outcome {
     let runs = number("LIMIT_RUNS", RUNS)?;
-    let works: Vec<Work> = growth::SIZES.into_iter().flat_map(graphs::all).map(Work::new).collect();
+    let works = works(growth::SIZES.into_iter().flat_map(graphs::shuffled));
     eprintln!("{}", check(&works)?);
     growth::print(&works, runs);
     Ok(0)
 }
 
 fn stack() -> Outcome {
-    let works = graphs::all(64).map(Work::new);
+    let works = works(graphs::all(VERTICES));
     check(&works)?;
     stack::print(&works);
     Ok(0)

@@ -1,14 +1,15 @@
-//! The table: every call but `empty` on each of the three graphs of 64 vertices, ours beside plain C, from scratch and the floor.
+//! The table: every call but `empty` on each of the four graphs of 64 vertices, ours beside plain C, from scratch and the floor.
 
 use crate::{
     blocks::{self, Block},
+    graphs::IN_ORDER,
     work::Work,
 };
 
 /// The most that ours may take, as a multiple of what plain C takes.
 const AGAINST_PLAIN: f64 = 1.15;
 /// The most that a validation or a recount of ours may take, as a multiple of what working all counts out from scratch takes.
-const AGAINST_SCRATCH: f64 = 1.2;
+const AGAINST_SCRATCH: f64 = 1.15;
 
 /// Calls that are timed together, each with its part of the block, and whether from scratch and floor are timed beside them.
 struct Group {
@@ -83,7 +84,7 @@ pub fn print(works: &[Work], runs: usize) -> bool {
         .map(|work| format!("{} {}", work.graph.name, work.graph.edge_count()))
         .collect();
     println!(
-        "n = {}; plain C by {}, {}; medians of {runs} interleaved runs; edges: {}; ns a call",
+        "n = {}; plain C by {}, {}; medians of {runs} interleaved runs; edges: {}; numbers shuffled in all but {IN_ORDER}; ns a call",
         works[0].n(),
         env!("LIMIT_COMPILER"),
         env!("LIMIT_FLAGS"),
