@@ -5,7 +5,7 @@ use mathlib.Core.Logic.{_⊎_, inl, inr}
 use mathlib.Core.Bool.{Bool, true, false, not}
 use mathlib.Core.List.{List}
 use Prim.Native.Nat.{ℕ, _+_, _-_, _*_, _%_, _^_, _≤_, _<_}
-use native.Mathlib.Nat.{lt-of-le-of-lt, mod-lt, mod-eq-of-lt, zero-mul, mul-zero}
+use native.Mathlib.Nat.{lt-of-le-of-lt, mod-lt, mod-eq-of-lt, zero-mul, mul-zero, pow-le-pow-right}
 use native.Mathlib.Decide.{ℕ-discrete, decLt}
 use native.Mathlib.Omega.{arith}
 use borrow.Author.Tests.{not-true}
@@ -19,8 +19,8 @@ use Rattle.sums.proofs.ModuloLaws.{congruent-add, congruent-cancel}
 use Rattle.sums.proofs.SumLaws.{delta-refl, delta-diff, sum-cong}
 use Rattle.word.specs.Bit.{bit, withBit, Lowest, LowestCleared}
 use Rattle.word.specs.Wrap.{plus, minus}
-use Rattle.word.proofs.BitLaws.{bit-cases, bit-set-same, bit-set-other, clear-below}
-use Rattle.word.proofs.MaskLaws.{bit-and}
+use Rattle.word.proofs.BitLaws.{bit-cases, bit-set-same, bit-set-other, clear-below, bit-above-zero}
+use Rattle.word.proofs.MaskLaws.{bit-and, bit-not, bit-low}
 use Rattle.word.proofs.WrapLaws.{minus-lt, minus-add, minus-congruent}
 use Rattle.word.proofs.CountLaws.{sum-no-bits, Taking, taking-start, taking-more, taking-done}
 use Rattle.answers.specs.Table.{Reflects}
@@ -33,7 +33,7 @@ use Rattle.sheet.proofs.FillLaws.{length-puts, over-in, over-out}
 use Rattle.sheet_theory.proofs.LayoutLaws.{place-apart}
 use Rattle.count_rows.specs.Internal.{SameRow, RowFilled}
 use Rattle.order.specs.Internal.{vertexAt, Ordered}
-use Rattle.count_blocks.specs.Internal.{UnitWords, OwnBy, BlockSummed, RowsTaken, countByMask, BlockCounted, PartHolds, PartFilled, BlockHolds, Led, BlockAt}
+use Rattle.count_blocks.specs.Internal.{UnitWords, PlaceOf, OwnBy, BlockSummed, RowsTaken, countByMask, BlockCounted, PartHolds, PartFilled, BlockHolds, HasColumns, Led, BlockAt}
 use Rattle.count_rows.proofs.FilledLaws.{Filled, filled-more, same-ordered}
 
 -- the words from the column c of row i on are the counts from i to these columns
@@ -59,18 +59,25 @@ module _ (op : ℕ → ℕ → ℕ) (i c : ℕ) (t : List ℕ) (long : length t 
     each = λ j h small. rw (delta-diff i (c + j) (λ e. elim out [ inl q ↦ omega arith | inr q ↦ omega arith ])) (same (getD t j 0) small);
   }
 
-  pub own-in : (u r : List ℕ) → UnitWords u → c ≤ i → i < c + 16 → RowBy op 16 u (16 + c - i) t r → OwnBy op i c t r
-  own-in u r unit low high a = record {
+  pub own-in : (u r : List ℕ) (p : ℕ) → UnitWords u → i ≡ c + p → p < 16 → RowBy op 16 u (16 - p) t r → OwnBy op i c t r
+  own-in u r p unit e high a = record {
     long = a .long ∙ long;
-    each = λ j h small. a .each j h (omega arith) ∙ ap (op (getD t j 0)) (unit .one (16 + c - i + j) (omega arith) ∙ place j);
+    each = λ j h small. a .each j h (omega arith) ∙ ap (op (getD t j 0)) (unit .one (16 - p + j) (omega arith) ∙ place j);
   }
     where
-      place : (j : ℕ) → delta (16 + c - i + j) 16 ≡ delta i (c + j)
+      place : (j : ℕ) → delta (16 - p + j) 16 ≡ delta i (c + j)
       place j =
           elim (ℕ-discrete i (c + j)) [
-            | yes e ↦ let q : 16 + c - i + j ≡ 16 = omega arith in rw q (delta-refl 16 ∙ sym (rw e (delta-refl (c + j))))
-            | no d ↦ delta-diff (16 + c - i + j) 16 (λ q. d (omega arith)) ∙ sym (delta-diff i (c + j) d)
+            | yes q ↦ let z : 16 - p + j ≡ 16 = omega arith in rw z (delta-refl 16 ∙ sym (rw q (delta-refl (c + j))))
+            | no d ↦ delta-diff (16 - p + j) 16 (λ q. d (omega arith)) ∙ sym (delta-diff i (c + j) d)
           ]
+
+-- the difference modulo 2 ^ 64 is the place, or beyond every place
+pub place-found : (i c r : ℕ) → i < 64 → c < 64 → r < 2 ^ 64 → (r + c) % 2 ^ 64 ≡ i → PlaceOf i c r
+place-found i c r hi hc hr e = record {
+  inside = λ h. omega arith;
+  outside = λ h. elim (decLt i c) [ yes q ↦ inl q | no q ↦ inr (omega arith) ];
+}
 
 pub plus-zero : (x : ℕ) → x < 2 ^ 64 → x ≡ plus x 0
 plus-zero x h = omega arith
@@ -178,38 +185,61 @@ module _ (n : ℕ) (s : List ℕ) (i mask c : ℕ) where
 
 -- ---- the vertices that lead to a column of the block
 
-pub led-set : (leading i mask c r : ℕ) → r ≡ withBit leading i → Led leading i mask c r
-led-set leading i mask c r e =
+-- the bits below c + 16, without those below c
+pub block-columns : (c x y : ℕ) → c + 16 ≤ 64 → x ≡ 2 ^ (c + 16) - 1 → y ≡ 2 ^ c - 1 → HasColumns c (bitAnd x ((2 ^ 64 - 1) - y))
+block-columns c x y h ex ey k low high =
+    let small : y < 2 ^ c = rw ey (omega (arith, pow-pos c)) in
+    let up : c ≤ 64 = omega arith in
+    let rest = bit-not 64 y k (omega (arith, small, pow-le-pow-right {n = 2} (omega arith) up)) (omega arith) in
+    let one : bit x k ≡ 1 = rw ex (bit-low (c + 16) k high) in
+    rw (bit-and x ((2 ^ 64 - 1) - y) k, one) (omega (arith, rest, bit-above-zero y c k small low))
+
+pub led-set : (leading i mask r : ℕ) → r ≡ withBit leading i → Led leading i mask r
+led-set leading i mask r e =
     rw e
     record {
       other = λ k d. bit-set-other leading i k d;
       out = λ z. absurd (omega (arith, z, bit-set-same leading i));
     }
 
-pub led-same : (leading i mask c : ℕ) → mask ≡ 0 → (i < c) ⊎ (c + 16 ≤ i) → Led leading i mask c leading
-led-same leading i mask c z out = record { other = λ k d. refl; out = λ e. (z, out) }
+pub led-same : (leading i mask : ℕ) → mask ≡ 0 → Led leading i mask leading
+led-same leading i mask z = record { other = λ k d. refl; out = λ e. (z, e) }
 
--- the counts to the columns are 0 from those of the first k vertices that are not among the leading
-abbrev pub Unled : ℕ → List ℕ → (ℕ → ℕ) → ℕ → ℕ → ℕ → Type 0
-Unled n t v c k leading = (m : ℕ) → m < k → bit leading (v m) ≡ 0 → (j : ℕ) → c ≤ j → j < c + 16 → countAt n t (v m) j ≡ 0
+-- the columns are among the leading, and the counts to them are 0 from those of the first k vertices that are not
+pub record Unled (n : ℕ) (t : List ℕ) (v : ℕ → ℕ) (c k leading : ℕ) : Type 0 where
+  pub columns : HasColumns c leading
+  pub none : (m : ℕ) → m < k → bit leading (v m) ≡ 0 → (j : ℕ) → c ≤ j → j < c + 16 → countAt n t (v m) j ≡ 0
+
+pub unled-start : (n : ℕ) (t : List ℕ) (v : ℕ → ℕ) (c leading : ℕ) → HasColumns c leading → Unled n t v c 0 leading
+unled-start n t v c leading h = record { columns = h; none = λ m q. absurd (omega arith) }
+
+columns-led : (c leading i mask r : ℕ) → HasColumns c leading → Led leading i mask r → HasColumns c r
+columns-led c leading i mask r was led k low high =
+    elim (ℕ-discrete k i) [
+      | yes e ↦ elim (bit-cases r i) [ inl z ↦ absurd (omega (arith, led .out z .1, rw e at (was k low high))) | inr o ↦ rw e o ]
+      | no d ↦ led .other k d ∙ was k low high
+    ]
 
 -- a vertex that leads nowhere by the mask and is not j
 none-by : (n : ℕ) (s : List ℕ) (i mask j : ℕ) → mask ≡ 0 → (i ≡ j → ⊥) → countByMask n s i mask j ≡ 0
 none-by n s i mask j z d = rw z (omega (arith, delta-diff i j d, sum-no-bits n (λ b. countAt n s b j)))
 
-pub unled-more : (n : ℕ) (t u : List ℕ) (v : ℕ → ℕ) (c k leading mask r : ℕ) → Unled n t v c k leading → Led leading (v k) mask c r
+pub unled-more : (n : ℕ) (t u : List ℕ) (v : ℕ → ℕ) (c k leading mask r : ℕ) → Unled n t v c k leading → Led leading (v k) mask r
     → ((j : ℕ) → c ≤ j → j < c + 16 → countAt n u (v k) j ≡ countByMask n t (v k) mask j)
     → ((i j : ℕ) → (i ≡ v k → ⊥) → c ≤ j → j < c + 16 → countAt n u i j ≡ countAt n t i j) → Unled n u v c (k + 1) r
-unled-more n t u v c k leading mask r was led here other m h z j low high =
-    elim (ℕ-discrete (v m) (v k)) [
-      | yes e ↦
-          let o = led .out (rw e at z) in
-          rw e (here j low high ∙ none-by n t (v k) mask j (o .0) (λ q. elim (o .1) [ inl p ↦ omega arith | inr p ↦ omega arith ]))
-      | no d ↦ elim (ℕ-discrete m k) [
-        | yes e ↦ absurd (d (ap v e))
-        | no q ↦ other (v m) j d low high ∙ was m (omega (arith, q)) (sym (led .other (v m) d) ∙ z) j low high
-      ]
-    ]
+unled-more n t u v c k leading mask r was led here other = record {
+  columns = columns-led c leading (v k) mask r (was .columns) led;
+  none = λ m h z j low high.
+      elim (ℕ-discrete (v m) (v k)) [
+        | yes e ↦
+            let o = led .out (rw e at z) in
+            rw e (here j low high ∙ none-by n t (v k) mask j (o .0) (λ q. omega (arith, o .1, rw (← q) at (was .columns j low high))))
+        | no d ↦ elim (ℕ-discrete m k) [
+          | yes e ↦ absurd (d (ap v e))
+          | no q ↦ other (v m) j d low high ∙ was .none m (omega (arith, q)) (sym (led .other (v m) d) ∙ z) j low high
+        ]
+      ];
+}
 
 pub leading-below : (n row leading : ℕ) → row < 2 ^ n → bitAnd row leading < 2 ^ n
 leading-below n row leading h = lt-of-le-of-lt (and-le-l row leading) h
@@ -230,7 +260,7 @@ led-sum n t l c k leading h hk un j low high = ap (λ (x : ℕ). (delta i j + x)
           | inr e ↦ elim (bit-cases leading b) [
             | inl z ↦
                 let o = h .order .earlier k hk b hb (omega (arith, e)) in
-                let none : countAt n t b j ≡ 0 = rw (o .2) at (un (o .0) (o .1) (rw (o .2) z) j low high) in
+                let none : countAt n t b j ≡ 0 = rw (o .2) at (un .none (o .0) (o .1) (rw (o .2) z) j low high) in
                 rw (none, mul-zero, mul-zero) refl
             | inr z ↦ ap (λ (x : ℕ). x * countAt n t b j) (rw (bit-and (rowAt t i) leading b, e, z) refl)
           ]
@@ -240,7 +270,7 @@ led-sum n t l c k leading h hk un j low high = ap (λ (x : ℕ). (delta i j + x)
 
 module _ (n : ℕ) (s l : List ℕ) (h : Ordered n s l) (shape : Shape n s) (c : ℕ) (within : c + 16 ≤ n) where
   pub filling-more : (t u : List ℕ) (k leading mask r : ℕ) → k < n → Filled n s (vertexAt l) c 16 k t → Unled n t (vertexAt l) c k leading
-      → mask ≡ bitAnd (rowAt t (vertexAt l k)) leading → PartFilled n t (vertexAt l k) mask c u → Led leading (vertexAt l k) mask c r
+      → mask ≡ bitAnd (rowAt t (vertexAt l k)) leading → PartFilled n t (vertexAt l k) mask c u → Led leading (vertexAt l k) mask r
       → Filled n s (vertexAt l) c 16 (k + 1) u × Unled n u (vertexAt l) c (k + 1) r
   filling-more t u k leading mask r hk f un em p led =
       (filled-more n s l h shape c 16 within t u k hk f row, unled-more n t u (vertexAt l) c k leading mask r un led (p .filled) other)
@@ -277,7 +307,7 @@ module _ (n : ℕ) (s l : List ℕ) (h : Ordered n s l) (c : ℕ) where
       whole : (j : ℕ) → c ≤ j → j < c + 16 → countByMask n s (vertexAt l k) mask j ≡ successorsSum n s (vertexAt l k) j
       whole j low high = ap (λ (x : ℕ). countByMask n s (vertexAt l k) x j) em ∙ led-sum n s l c k leading h hk un j low high
 
-  pub compared-more : (k leading mask r : ℕ) → Unled n s (vertexAt l) c k leading → Led leading (vertexAt l k) mask c r
+  pub compared-more : (k leading mask r : ℕ) → Unled n s (vertexAt l) c k leading → Led leading (vertexAt l k) mask r
       → PartHolds n s (vertexAt l k) mask c → Unled n s (vertexAt l) c (k + 1) r
   compared-more k leading mask r un led part = unled-more n s s (vertexAt l) c k leading mask r un led part (λ a j d low high. refl)
 

@@ -25,6 +25,11 @@ pub record UnitWords (u : List ℕ) : Type 0 where
   pub long : length u ≡ 32
   pub one : (k : ℕ) → k < 32 → getD u k 0 ≡ delta k columns
 
+-- r is the place of i among the columns from c on, or 16 or more if i is none of them
+pub record PlaceOf (i c r : ℕ) : Type 0 where
+  pub inside : r < columns → i ≡ c + r
+  pub outside : columns ≤ r → (i < c) ⊎ (c + columns ≤ i)
+
 -- s is a sheet of n vertices, u has the words of `UnitWords`, and the block from c on lies within the n columns
 pub record BlockReady (n : ℕ) (s u : List ℕ) (c : ℕ) : Type 0 where
   pub shape : Shape n s
@@ -64,10 +69,14 @@ pub record PartFilled (n : ℕ) (s : List ℕ) (i mask c : ℕ) (t : List ℕ) :
 abbrev pub BlockHolds : ℕ → List ℕ → ℕ → Type 0
 BlockHolds n s c = (i : ℕ) → i < n → (j : ℕ) → c ≤ j → j < c + columns → countAt n s i j ≡ successorsSum n s i j
 
--- r is leading, with i or without; without only if i leads nowhere by the mask and is none of the columns from c on
-pub record Led (leading i mask c r : ℕ) : Type 0 where
+-- the mask holds each of the columns from c on
+abbrev pub HasColumns : ℕ → ℕ → Type 0
+HasColumns c mask = (k : ℕ) → c ≤ k → k < c + columns → bit mask k ≡ 1
+
+-- r is leading, with i or without; without only if i was not in it and the mask is empty
+pub record Led (leading i mask r : ℕ) : Type 0 where
   pub other : (k : ℕ) → (k ≡ i → ⊥) → bit r k ≡ bit leading k
-  pub out : bit r i ≡ 0 → (mask ≡ 0) × ((i < c) ⊎ (c + columns ≤ i))
+  pub out : bit r i ≡ 0 → (mask ≡ 0) × (bit leading i ≡ 0)
 
 -- the block from r on lies within the n columns, and holds column c and the 15 after it, as far as there are
 pub record BlockAt (n c r : ℕ) : Type 0 where

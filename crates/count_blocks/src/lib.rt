@@ -11,8 +11,8 @@ ghost use Rattle.sheet_theory.specs.Internal.{RowHolds, RowsBelow};
 ghost use Rattle.order.specs.Internal.{Ordered};
 ghost use Rattle.count_rows.specs.Internal.{counted, ColumnsFilled};
 ghost use Rattle.sheet.specs.Internal.{RowBy};
-ghost use Rattle.count_blocks.specs.Internal.{columns, UnitWords, OwnBy, BlockSummed, RowsTaken, BlockCounted, PartHolds, PartFilled};
-ghost use Rattle.count_blocks.specs.Internal.{Led, BlockAt, BlockReady, BlockHolds};
+ghost use Rattle.count_blocks.specs.Internal.{columns, UnitWords, PlaceOf, OwnBy, BlockSummed, RowsTaken, BlockCounted, PartHolds, PartFilled};
+ghost use Rattle.count_blocks.specs.Internal.{HasColumns, Led, BlockAt, BlockReady, BlockHolds};
 use sheet::Sheet;
 
 // Internal: the columns of a block, whose counts are worked out together: so many that their sums fit in registers.
@@ -22,7 +22,7 @@ pub const COLUMNS: usize = 16;
 const UNIT_WORDS: usize = 2 * COLUMNS;
 
 // An array whose middle word is 1 and whose other words are 0. The path from i to itself is added to the sums of the block from c on as the
-// window of COLUMNS words that begins at COLUMNS + c - i. Writing to the place i - c would spill the sums to memory.
+// window of COLUMNS words that begins at COLUMNS less the place of i. Writing to that place would spill the sums to memory.
 fn unit_words() -> [u64; UNIT_WORDS]
     ensures { λ r. ⌜ UnitWords r ⌝ }
 {
@@ -31,18 +31,23 @@ fn unit_words() -> [u64; UNIT_WORDS]
     unit
 }
 
+// The place of i among the columns from c on. It is COLUMNS or more exactly if i is none of them, so one test tells.
+fn place_of(i: usize, c: usize) -> usize
+    requires { ⌜ (i < 64) × (c < 64) ⌝ }
+    ensures { λ r. ⌜ PlaceOf i c r ⌝ }
+{
+    std::num::wrapping_sub_usize(i, c)
+}
+
 // The path from i to itself, added to the counts from i to the columns from c on.
 fn add_own(unit: &[u64; UNIT_WORDS], i: usize, c: usize, t: &mut [u64; COLUMNS])
     requires { ⌜ (UnitWords (now unit)) × (i < 64) × (c < 64) × (length (now t) ≡ columns) ⌝ }
     ensures { λ r. ⌜ OwnBy plus i c (now (t .entry)) (now (t .exit)) ⌝ }
 {
-    if i < c {
-        return;
+    let place = place_of(i, c);
+    if place < COLUMNS {
+        sheet::rows::add_row(COLUMNS, unit, COLUMNS - place, t);
     }
-    if c + COLUMNS <= i {
-        return;
-    }
-    sheet::rows::add_row(COLUMNS, unit, COLUMNS + c - i, t);
 }
 
 // For each column from c on, the sum of the counts to it from the vertices of the mask, modulo 2^64.
@@ -78,22 +83,23 @@ fn count_block(
     t
 }
 
-// The vertices found to lead to one of the columns from c on, and i too if it leads there by a vertex of the mask or is itself one of
-// them.
-fn lead(leading: u64, i: usize, mask: u64, c: usize) -> u64
-    requires { ⌜ (i < 64) × (c < 64) ⌝ }
-    ensures { λ r. ⌜ Led leading i mask c r ⌝ }
+// The columns from c on, as a mask.
+fn block_mask(c: usize) -> u64
+    requires { ⌜ c + columns ≤ 64 ⌝ }
+    ensures { λ r. ⌜ HasColumns c r ⌝ }
+{
+    word::low_bits(c + COLUMNS) & !word::low_bits(c)
+}
+
+// The vertices found to lead to one of a block's columns, and i too if an edge leads from it to one of them, a vertex of the mask.
+fn lead(leading: u64, i: usize, mask: u64) -> u64
+    requires { ⌜ i < 64 ⌝ }
+    ensures { λ r. ⌜ Led leading i mask r ⌝ }
 {
     if mask != 0 {
         return word::set_bit(leading, i);
     }
-    if i < c {
-        return leading;
-    }
-    if c + COLUMNS <= i {
-        return leading;
-    }
-    word::set_bit(leading, i)
+    leading
 }
 
 // Where the block of columns begins that holds column c and those after it: at c, or earlier where fewer than 16 are left.
@@ -127,13 +133,13 @@ fn fill_block(
     requires { ⌜ (BlockReady n (now sheet) (now unit) c) × (RowsBelow n (now sheet)) × (Ordered n (now sheet) (now order)) ⌝ }
     ensures { λ r. ⌜ ColumnsFilled n (now (sheet .entry)) c columns (now (sheet .exit)) ⌝ }
 {
-    let mut leading = 0;
+    let mut leading = block_mask(c);
     let mut k = 0;
     while k < n {
         let i = order[k];
         let mask = sheet[i] & leading;
+        leading = lead(leading, i, mask);
         fill_part(n, sheet, unit, i, mask, c);
-        leading = lead(leading, i, mask, c);
         k += 1;
     }
 }
@@ -168,13 +174,10 @@ fn take_own(unit: &[u64; UNIT_WORDS], i: usize, c: usize, t: &mut [u64; COLUMNS]
     requires { ⌜ (UnitWords (now unit)) × (i < 64) × (c < 64) × (length (now t) ≡ columns) ⌝ }
     ensures { λ r. ⌜ OwnBy minus i c (now (t .entry)) (now (t .exit)) ⌝ }
 {
-    if i < c {
-        return;
+    let place = place_of(i, c);
+    if place < COLUMNS {
+        take_row(COLUMNS, unit, COLUMNS - place, t);
     }
-    if c + COLUMNS <= i {
-        return;
-    }
-    take_row(COLUMNS, unit, COLUMNS + c - i, t);
 }
 
 // The counts from the vertices of the mask to the columns from c on, taken off.
@@ -222,15 +225,15 @@ fn block_holds(
     requires { ⌜ (BlockReady n (now sheet) (now unit) c) × (RowsBelow n (now sheet)) × (Ordered n (now sheet) (now order)) ⌝ }
     ensures { λ r. ⌜ Reflects r (BlockHolds n (now (sheet .entry)) c) ⌝ }
 {
-    let mut leading = 0;
+    let mut leading = block_mask(c);
     let mut k = 0;
     while k < n {
         let i = order[k];
         let mask = sheet[i] & leading;
+        leading = lead(leading, i, mask);
         if !part_holds(n, sheet, unit, i, mask, c) {
             return false;
         }
-        leading = lead(leading, i, mask, c);
         k += 1;
     }
     true

@@ -5,7 +5,7 @@ use Prim.Native.Nat.{_-_, _≤_}
 use native.Mathlib.Omega.{arith}
 use Rattle.order.specs.Internal.{vertexAt}
 use Rattle.count_rows.proofs.FilledLaws.{Filled, filled-start, filled-all, same-shape, same-below}
-use Rattle.count_blocks.proofs.BlockLaws.{Unled, leading-below, filling-more}
+use Rattle.count_blocks.proofs.BlockLaws.{Unled, unled-start, leading-below, filling-more}
 use Rattle.count_blocks.proofs.fill_block.Statement.{statement}
 use Rattle.count_blocks.proofs.fill_block.Tie as tie
 
@@ -16,29 +16,37 @@ Inv-loop n sheet₀ order unit c leading₀ k₀ sheet leading k =
 abbrev μ-loop : tie.MeasureT-loop
 μ-loop n sheet₀ order unit c leading₀ k₀ sheet leading k = n - k
 
+block-mask-requires : tie.Need-block-mask-requires Inv-loop μ-loop
+block-mask-requires c κs = omega (arith, c .before .pre .0 .within, c .before .pre .0 .shape .high)
+
 loop-holds : tie.Need-loop-holds Inv-loop μ-loop
 loop-holds c =
-    let a = c .before in
-    (omega arith, filled-start _ _ _ (a .pre .2) (a .pre .0 .shape) _ 16 (a .pre .0 .within), λ m q. absurd (omega arith))
+    let a = c .before .before in
+    (omega arith, filled-start _ _ _ (a .pre .2) (a .pre .0 .shape) _ 16 (a .pre .0 .within), unled-start _ _ _ _ _ (c .block-mask .ensures))
 
 element-copy-out-i : tie.Need-element-copy-out-i Inv-loop μ-loop
-element-copy-out-i c = omega (arith, c .before .before .before .pre .0 .shape .high)
+element-copy-out-i c = omega (arith, c .before .before .before .before .pre .0 .shape .high)
 
 mul-mask : tie.Need-mul-mask Inv-loop μ-loop
 mul-mask c =
-    let a = c .before .before .before .before .pre in
+    let a = c .before .before .before .before .before .pre in
     omega (arith, a .2 .order .vertex (c .before .before .loop .k) (omega arith), a .0 .shape .high)
 
 slice-read-mask : tie.Need-slice-read-mask Inv-loop μ-loop
 slice-read-mask c =
-    let a = c .before .before .before .before .before .pre in
+    let a = c .before .before .before .before .before .before .pre in
     let l = c .before .before .before .loop in
     omega (arith, a .2 .order .vertex (l .k) (omega arith), l .inv .1 .long, a .0 .shape .long)
 
+lead-requires : tie.Need-lead-requires Inv-loop μ-loop
+lead-requires c κs =
+    let a = c .before .before .before .before .before .before .pre in
+    omega (arith, a .2 .order .vertex (c .before .before .before .loop .k) (omega arith), a .0 .shape .high)
+
 fill-part-requires : tie.Need-fill-part-requires Inv-loop μ-loop
 fill-part-requires c κs =
-    let a = c .before .before .before .before .before .before in
-    let l = c .before .before .before .before .loop in
+    let a = c .before .before .before .before .before .before .before .before in
+    let l = c .before .before .before .before .before .loop in
     let f = l .inv .1 in
     let v = a .pre .2 .order .vertex (l .k) (omega arith) in
     let row = same-below (a .args .n) (a .args .sheet .now) (l .sheet) (f .long) (f .rows) (a .pre .1) _ v in (
@@ -51,18 +59,12 @@ fill-part-requires c κs =
       leading-below _ _ _ row,
     )
 
-lead-requires : tie.Need-lead-requires Inv-loop μ-loop
-lead-requires c κs =
-    let a = c .before .before .before .before .before .before .before .before .before .pre in
-    let v = a .2 .order .vertex (c .before .before .before .before .before .before .before .loop .k) (omega arith) in
-    (omega (arith, v, a .0 .shape .high), omega (arith, a .0 .within, a .0 .shape .high))
-
 loop-again : tie.Need-loop-again Inv-loop μ-loop
 loop-again c =
-    let a = c .before .before .before .before .before .before .before .before .before .before in
+    let a = c .before .before .before .before .before .before .before .before .before .before .before in
     let l = c .before .before .before .before .before .before .before .before .loop in
     let more = filling-more (a .args .n) (a .args .sheet .now) (a .args .order .now) (a .pre .2) (a .pre .0 .shape) (a .args .c) (a .pre .0 .within) _ _ (l .k)
-    (l .leading) _ _ (omega arith) (l .inv .1) (l .inv .2) refl (c .before .before .before .fill-part .ensures) (c .lead .ensures) in
+    (l .leading) _ _ (omega arith) (l .inv .1) (l .inv .2) refl (c .before .before .fill-part .ensures) (c .before .before .before .before .lead .ensures) in
     (omega arith, more .0, more .1)
 
 same-length : tie.Need-same-length Inv-loop μ-loop
@@ -70,11 +72,11 @@ same-length c = c .before .loop .inv .1 .long
 
 returns : tie.Need-returns Inv-loop μ-loop
 returns c =
-    let a = c .before .before .before in
+    let a = c .before .before .before .before in
     filled-all _ _ _ (a .pre .2) (a .pre .0 .shape) _ 16 (a .pre .0 .within) _ _ (c .before .loop .inv .1) (omega arith)
 
 pub fill-block-spec : {M : Type 1} → statement M
 fill-block-spec =
     tie.close
-    (tie.spec Inv-loop μ-loop loop-holds (λ c. omega arith) element-copy-out-i mul-mask slice-read-mask fill-part-requires lead-requires (λ c. omega arith)
+    (tie.spec Inv-loop μ-loop block-mask-requires loop-holds (λ c. omega arith) element-copy-out-i mul-mask slice-read-mask lead-requires fill-part-requires (λ c. omega arith)
     (λ c. omega arith) loop-again same-length returns)
