@@ -11,19 +11,19 @@ fn path(n: usize, sheet: &[u64], from: usize, to: usize, k: u64) -> bool {
         return false;
     }
     if found.number != 0 {
-        lines::number(b"unrank refused ", found.number, b"\n");
+        script::print_last(b"unrank refused ", found.number);
         return false;
     }
     let count = found.value as usize;
     if Sheet::VERTICES < count {
-        lines::number(b"unrank wrote ", found.value, b"\n");
+        script::print_last(b"unrank wrote ", found.value);
         return false;
     }
-    let vertices = &bytes[..count];
+    let vertices = &bytes[0..count];
     lines::path(from, to, k, vertices);
     let back = query::rank(n, sheet, vertices);
     if back.number != 0 || back.value != k {
-        lines::number(b"rank answered ", back.value, b"\n");
+        script::print_last(b"rank answered ", back.value);
     }
     true
 }
