@@ -4,7 +4,7 @@
 const BASE: usize = 10;
 
 // What a word writes.
-pub enum Number {
+pub(crate) enum Number {
     // A number.
     Is(usize),
     // Not a number of 64 bits: there is no digit, another byte, or the number is too great.
@@ -27,7 +27,7 @@ fn with_digit(number: Number, byte: u8) -> Number {
 }
 
 // The number that a word writes.
-pub fn number_of(word: &[u8]) -> Number {
+pub(crate) fn number_of(word: &[u8]) -> Number {
     if word.len() == 0 {
         return Number::No;
     }

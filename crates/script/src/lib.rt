@@ -27,7 +27,8 @@ const SLASH: u8 = b'/';
 // The greatest number that a byte holds.
 pub const GREATEST_BYTE: usize = 255;
 
-// The bytes of standard input, in a buffer that has to be longer than they are. Where they fill it, a line says so, and none is taken.
+// Internal: the bytes of standard input, in a buffer that has to be longer than they are. Where they fill it, a line says so, and none is
+// taken.
 pub fn input<'a>(buffer: &'a mut [u8]) -> &'a [u8] {
     let count = io::read_full(libc::STDIN_FILENO, buffer);
     let bytes = &buffer[..];
@@ -55,7 +56,7 @@ fn after(text: &[u8], separator: u8) -> usize
     end
 }
 
-// The bytes after the first k separators; none if there are fewer.
+// Internal: the bytes after the first k separators; none if there are fewer.
 pub fn skip<'a>(text: &'a [u8], separator: u8, k: usize) -> &'a [u8] {
     let mut rest = text;
     let mut left = k;
@@ -67,13 +68,13 @@ pub fn skip<'a>(text: &'a [u8], separator: u8, k: usize) -> &'a [u8] {
     rest
 }
 
-// Part k of the bytes, from 0 up, between one separator and the next, as a line of a text or a word of a line; no byte if there are fewer
-// parts.
+// Internal: part k of the bytes, from 0 up, between one separator and the next, as a line of a text or a word of a line; no byte if there
+// are fewer parts.
 pub fn part<'a>(text: &'a [u8], separator: u8, k: usize) -> &'a [u8] {
     first(skip(text, separator, k), separator)
 }
 
-// How many separators there are.
+// Internal: how many separators there are.
 pub fn count(text: &[u8], separator: u8) -> usize {
     let mut found = 0;
     let mut k = 0;
@@ -86,17 +87,17 @@ pub fn count(text: &[u8], separator: u8) -> usize {
     found
 }
 
-// What stands after the first word of a line.
+// Internal: what stands after the first word of a line.
 pub fn tail<'a>(line: &'a [u8]) -> &'a [u8] {
     skip(line, SPACE, 1)
 }
 
-// How many words stand after the first.
+// Internal: how many words stand after the first.
 pub fn words(line: &[u8]) -> usize {
     count(line, SPACE)
 }
 
-// The number that word k of a line writes; 0 if it writes none.
+// Internal: the number that word k of a line writes; 0 if it writes none.
 pub fn number(line: &[u8], k: usize) -> usize {
     match digits::number_of(part(line, SPACE, k)) {
         Number::Is(value) => value,
@@ -107,7 +108,7 @@ pub fn number(line: &[u8], k: usize) -> usize {
 // Four numbers.
 pub struct Four(pub usize, pub usize, pub usize, pub usize);
 
-// The first four numbers after the first word of a line; 0 where there is none.
+// Internal: the first four numbers after the first word of a line; 0 where there is none.
 pub fn numbers(line: &[u8]) -> Four {
     Four(
         number(line, 1),
@@ -141,7 +142,7 @@ fn has_form(line: &[u8], form: &[u8]) -> bool {
     has_numbers(line) && (!has_numbers(form) || words(line) == number(form, 1))
 }
 
-// Which of some forms a line has, from 0 up; how many forms there are if it has none. A `/` ends each form.
+// Internal: which of some forms a line has, from 0 up; how many forms there are if it has none. A `/` ends each form.
 pub fn form(line: &[u8], forms: &[u8]) -> usize {
     let most = count(forms, SLASH);
     let mut k = 0;
@@ -151,7 +152,7 @@ pub fn form(line: &[u8], forms: &[u8]) -> usize {
     k
 }
 
-// Puts the numbers after the first word of a line at the start of some words: whether they fit.
+// Internal: puts the numbers after the first word of a line at the start of some words: whether they fit.
 pub fn put_words(line: &[u8], buffer: &mut [u64]) -> bool {
     let count = words(line);
     if buffer.len() < count {
@@ -183,7 +184,7 @@ fn put_bytes(line: &[u8], buffer: &mut [u8]) -> bool {
     true
 }
 
-// The numbers after the first word of a line, as the bytes of a buffer; no byte if they do not fit, or one does not fit a byte.
+// Internal: the numbers after the first word of a line, as the bytes of a buffer; no byte if they do not fit, or one does not fit a byte.
 pub fn bytes_of<'a>(line: &[u8], buffer: &'a mut [u8]) -> &'a [u8] {
     let filled = put_bytes(line, buffer);
     let all = &buffer[..];
@@ -199,7 +200,7 @@ fn text_byte(byte: u8) -> u8 {
     if byte == SLASH { LINE_FEED } else { byte }
 }
 
-// Puts a text at the start of some bytes, with a line feed in place of each `/`: whether it fits.
+// Internal: puts a text at the start of some bytes, with a line feed in place of each `/`: whether it fits.
 pub fn put_text(text: &[u8], buffer: &mut [u8]) -> bool {
     if buffer.len() < text.len() {
         return false;
