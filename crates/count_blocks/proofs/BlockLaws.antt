@@ -23,12 +23,12 @@ use Rattle.word.proofs.BitLaws.{bit-cases, bit-set-same, bit-set-other, clear-b
 use Rattle.word.proofs.MaskLaws.{bit-and, bit-not, bit-low}
 use Rattle.word.proofs.WrapLaws.{minus-lt, minus-add, minus-congruent}
 use Rattle.word.proofs.CountLaws.{sum-no-bits, Taking, taking-start, taking-more, taking-done}
-use Rattle.answers.specs.Table.{Reflects}
+use Rattle.answer.specs.Table.{Reflects}
 use Rattle.sheet_theory.specs.Layout.{Shape, size, rowAt, countAt, edgeAt}
 use Rattle.sheet.specs.Fill.{over}
 use Rattle.sheet.specs.Internal.{RowBase, RowBy}
 use Rattle.sheet_theory.specs.Internal.{successorsSum, RowHolds}
-use Rattle.answers.proofs.TableLaws.{reflects-false, reflects-true, reflects-none, reflects-iff}
+use Rattle.answer.proofs.TableLaws.{reflects-false, reflects-true, reflects-none, reflects-iff}
 use Rattle.sheet.proofs.FillLaws.{length-puts, over-in, over-out}
 use Rattle.sheet_theory.proofs.LayoutLaws.{place-apart}
 use Rattle.count_rows.specs.Internal.{SameRow, RowFilled}

@@ -5,7 +5,7 @@ ghost use mathlib.Core.Path.{_≡_};
 ghost use Prim.Native.Nat.{ℕ, _+_, _≤_, _<_, _^_};
 ghost use lib.ListN.{length};
 ghost use Rattle.word.specs.Wrap.{plus, minus};
-ghost use Rattle.answers.specs.Table.{Reflects};
+ghost use Rattle.answer.specs.Table.{Reflects};
 ghost use Rattle.sheet_theory.specs.Layout.{Shape};
 ghost use Rattle.sheet_theory.specs.Internal.{RowHolds, RowsBelow};
 ghost use Rattle.order.specs.Internal.{Ordered};

@@ -13,7 +13,7 @@ use lib.ListN.{length, getD, set, length-set}
 use lib.Seq.{getD-set-same, getD-set-other}
 use Rattle.sums.proofs.SumLaws.{delta-refl, delta-diff}
 use Rattle.word.proofs.MaskLaws.{or-zero}
-use Rattle.answers.specs.Table.{Reflects}
+use Rattle.answer.specs.Table.{Reflects}
 use Rattle.sheet_theory.specs.Layout.{size, rowAt}
 use Rattle.sheet.specs.Fill.{over}
 use Rattle.sheet.specs.Internal.{RowBase, RowsSummed}

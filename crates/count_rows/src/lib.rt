@@ -2,7 +2,7 @@
 ghost use mathlib.Core.Path.{_≡_};
 ghost use Prim.Native.Nat.{ℕ, _+_, _≤_, _<_, _^_};
 ghost use lib.ListN.{length, getD};
-ghost use Rattle.answers.specs.Table.{Reflects};
+ghost use Rattle.answer.specs.Table.{Reflects};
 ghost use Rattle.sheet_theory.specs.Layout.{Shape, rowAt};
 ghost use Rattle.sheet.specs.Fill.{over};
 ghost use Rattle.sheet_theory.specs.Internal.{RowHolds, RowsBelow};

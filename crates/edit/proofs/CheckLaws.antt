@@ -15,12 +15,12 @@ use Rattle.word.specs.Bit.{bit, hasBit, withBit}
 use Rattle.word.proofs.BitLaws.{bit-set-same, bit-set-other, has-true, has-false}
 use Rattle.word.proofs.MaskLaws.{bit-not, and-zero, and-some}
 use Rattle.graph.specs.Update.{into, out, through, Closes}
-use Rattle.answers.specs.Table.{Conditions, First, firstTrue, Reflects}
+use Rattle.answer.specs.Table.{Conditions, First, firstTrue, Reflects}
 use Rattle.sheet_theory.specs.Layout.{rowAt, countAt, edgeAt}
 use Rattle.sheet_theory.specs.Conditions.{StrayBit}
 use Rattle.sheet_theory.specs.Internal.{shapeNumber}
 use Rattle.sheet.specs.Internal.{RowBase}
-use Rattle.answers.proofs.TableLaws.{reflects-true, reflects-iff, reflects-not, reflects-eq, reflects-false, first-true, first-only}
+use Rattle.answer.proofs.TableLaws.{reflects-true, reflects-iff, reflects-not, reflects-eq, reflects-false, first-true, first-only}
 use Rattle.sheet_theory.proofs.ShapeLaws.{sized-stops, sized-passes}
 use Rattle.sheet_theory.proofs.StrayLaws.{stray-iff}
 use Rattle.sheet.proofs.RowLaws.{base-count}

@@ -7,14 +7,14 @@ use Prim.Native.Nat.{ℕ, _*_, _%_, _^_, _<_}
 use native.Mathlib.Omega.{arith}
 use lib.ListN.{length}
 use Rattle.word.proofs.MaskLaws.{one-shl}
-use Rattle.answers.specs.declared.Answer.{Answer}
-use Rattle.answers.specs.Table.{First, Tests, firstTrue}
-use Rattle.answers.specs.Answers.{answer, decided, answered}
+use Rattle.answer.specs.declared.Answer.{Answer}
+use Rattle.answer.specs.Table.{First, Tests, firstTrue}
+use Rattle.answer.specs.Answers.{answer, decided, answered}
 use Rattle.sheet_theory.specs.Layout.{size, setBits}
 use Rattle.sheet_theory.specs.Conditions.{sized, sizedTests}
 use Rattle.sheet_theory.specs.Internal.{verticesNumber}
-use Rattle.answers.proofs.TableLaws.{first-true, Refusing, first-stops, first-passes, first-past}
-use Rattle.answers.proofs.AnswerLaws.{answered-refused, answered-accepted, decided-refused, decided-accepted}
+use Rattle.answer.proofs.TableLaws.{first-true, Refusing, first-stops, first-passes, first-past}
+use Rattle.answer.proofs.AnswerLaws.{answered-refused, answered-accepted, decided-refused, decided-accepted}
 use Rattle.sheet_theory.proofs.ShapeLaws.{sized-agree, accepted-shape, vertices-below}
 use Rattle.sheet_theory.proofs.LayoutLaws.{length-redone, row-redone, count-redone, rest-redone, redone-ext}
 use Rattle.edit_theory.specs.Edit.{Edges, one, at, Edit, vertexOf, predecessorsOf, successorsOf, edgeEdit}

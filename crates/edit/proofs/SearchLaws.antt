@@ -8,8 +8,8 @@ use native.Mathlib.Omega.{arith}
 use Rattle.word.proofs.CountLaws.{lowest-lt}
 use Rattle.word.specs.Bit.{bit, Lowest, LowestCleared}
 use Rattle.word.proofs.BitLaws.{bit-zero, bit-clear-other, clear-below}
-use Rattle.answers.specs.Table.{Reflects}
-use Rattle.answers.proofs.TableLaws.{reflects-true, reflects-none}
+use Rattle.answer.specs.Table.{Reflects}
+use Rattle.answer.proofs.TableLaws.{reflects-true, reflects-none}
 use Rattle.edit_theory.specs.Table.{SomeOf}
 
 -- rest has bits of the mask, and no vertex of the mask that it has no more is a P

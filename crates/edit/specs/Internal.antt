@@ -5,9 +5,9 @@ use mathlib.Core.Bool.{Bool}
 use mathlib.Core.List.{List, []}
 use Prim.Native.Nat.{ℕ, _<_}
 use Rattle.word.specs.Bit.{bit, hasBit}
-use Rattle.answers.specs.declared.Answer.{Answer}
-use Rattle.answers.specs.Table.{firstTrue}
-use Rattle.answers.specs.Answers.{decided, answered}
+use Rattle.answer.specs.declared.Answer.{Answer}
+use Rattle.answer.specs.Table.{firstTrue}
+use Rattle.answer.specs.Answers.{decided, answered}
 use Rattle.sheet_theory.specs.Layout.{countAt, setBits, redone}
 use Rattle.sheet_theory.specs.Conditions.{sizedTests}
 use Rattle.edit_theory.specs.Edit.{Edges, oneIf, marked}

@@ -3,7 +3,7 @@ ghost use mathlib.Core.Path.{_≡_};
 ghost use Prim.Native.Nat.{ℕ, _<_, _^_};
 ghost use Rattle.graph.specs.Update.{Closes};
 ghost use Rattle.word.specs.Bit.{bit};
-ghost use Rattle.answers.specs.Table.{Reflects};
+ghost use Rattle.answer.specs.Table.{Reflects};
 ghost use Rattle.sheet_theory.specs.Layout.{Shape, countAt, edgeAt};
 ghost use Rattle.edit_theory.specs.Edit.{at, oneIf};
 ghost use Rattle.edit_theory.specs.Table.{SomeEdge, SomeOf};

@@ -6,9 +6,9 @@ use native.Mathlib.Decide.{ℕ-discrete}
 use lib.ListN.{length}
 use Rattle.word.specs.Bit.{bit}
 use Rattle.graph.specs.Update.{fromSum, toSum}
-use Rattle.answers.specs.Answers.{decided}
+use Rattle.answer.specs.Answers.{decided}
 use Rattle.sheet_theory.specs.Layout.{size, rowAt, countAt, setBits}
-use Rattle.answers.proofs.TableLaws.{first-past}
+use Rattle.answer.proofs.TableLaws.{first-past}
 use Rattle.sheet_theory.proofs.LayoutLaws.{length-redone, row-redone, count-redone}
 use Rattle.edit_theory.specs.Edit.{Edit, vertexOf, predecessorsOf, successorsOf, named, marked}
 use Rattle.edit_theory.specs.Outcome.{editedBy, editedCount, edited, editWords, editAnswer, editAfter}

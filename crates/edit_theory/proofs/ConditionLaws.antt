@@ -9,10 +9,10 @@ use native.Mathlib.Nat.{lt-of-not-le}
 use lib.Dec.{leb, eqb}
 use lib.ListN.{length}
 use lib.Pow.{pow-lt, pow-pos}
-use Rattle.answers.specs.Table.{Conditions, First, Tests, Reflects}
+use Rattle.answer.specs.Table.{Conditions, First, Tests, Reflects}
 use Rattle.sheet_theory.specs.Layout.{size, edgeAt}
 use Rattle.sheet_theory.specs.Conditions.{BadVertices, StrayBit}
-use Rattle.answers.proofs.TableLaws.{Agree, reflects-iff, reflects-or, reflects-lt, reflects-le, reflects-eq, first-past, first-rest}
+use Rattle.answer.proofs.TableLaws.{Agree, reflects-iff, reflects-or, reflects-lt, reflects-le, reflects-eq, first-past, first-rest}
 use Rattle.sheet_theory.proofs.StrayLaws.{stray-iff, stray-not}
 use Rattle.edit_theory.specs.Edit.{Edges, one, at, Edit, vertexOf, predecessorsOf, successorsOf}
 use Rattle.edit_theory.specs.Table.{SomeEdge, argued, effects, table}

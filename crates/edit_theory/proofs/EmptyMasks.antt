@@ -14,12 +14,12 @@ use Rattle.word.specs.Wrap.{minus}
 use Rattle.word.proofs.BitLaws.{bit-zero}
 use Rattle.word.proofs.CountLaws.{sum-no-bits}
 use Rattle.graph.specs.Update.{fromSum, toSum, into, out, through, Closes}
-use Rattle.answers.specs.Table.{_gives_, First}
-use Rattle.answers.specs.Answers.{decided}
+use Rattle.answer.specs.Table.{_gives_, First}
+use Rattle.answer.specs.Answers.{decided}
 use Rattle.sheet_theory.specs.Layout.{countAt, edgeAt, setBits}
 use Rattle.sheet_theory.specs.Conditions.{NoVertex, StrayBit, sized}
 use Rattle.sheet_theory.proofs.LayoutLaws.{redone-ext}
-use Rattle.answers.proofs.TableLaws.{first-rest}
+use Rattle.answer.proofs.TableLaws.{first-rest}
 use Rattle.edit_theory.specs.Edit.{at, Edit, edgesEdit, namedAt}
 use Rattle.edit_theory.specs.Table.{SomeEdge, effects}
 use Rattle.edit_theory.specs.Outcome.{editedRow, editedBy, editedCount, edited, editConditions, editNumber, editAnswer, editAfter}

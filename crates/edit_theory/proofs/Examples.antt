@@ -6,8 +6,8 @@ use Rattle.sums.specs.Sum.{sum}
 use Rattle.word.specs.Bit.{ofBits}
 use Rattle.word.specs.Wrap.{minus}
 use Rattle.graph.specs.Update.{fromSum, toSum}
-use Rattle.answers.specs.Table.{firstTrue}
-use Rattle.answers.specs.Answers.{answer}
+use Rattle.answer.specs.Table.{firstTrue}
+use Rattle.answer.specs.Answers.{answer}
 use Rattle.sheet_theory.specs.Layout.{build, redoneWord, redone}
 use Rattle.sheet_theory.proofs.Examples.{D}
 use Rattle.edit_theory.specs.Edit.{insertEdge, insertEdgesAt, deleteEdgesAt}

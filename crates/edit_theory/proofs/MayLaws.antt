@@ -7,9 +7,9 @@ use Prim.Native.Nat.{ℕ, _≤_, _<_}
 use native.Mathlib.Nat.{lt-of-not-le}
 use native.Mathlib.Omega.{arith}
 use Rattle.graph.specs.Graph.{Cycle}
-use Rattle.answers.specs.Table.{_gives_, First}
-use Rattle.answers.specs.Answers.{answer}
-use Rattle.answers.proofs.TableLaws.{first-other, first-past}
+use Rattle.answer.specs.Table.{_gives_, First}
+use Rattle.answer.specs.Answers.{answer}
+use Rattle.answer.proofs.TableLaws.{first-other, first-past}
 use Rattle.sheet_theory.specs.Conditions.{BadVertices}
 use Rattle.edit_theory.specs.Edit.{one, edgeEdit, insertEdge}
 use Rattle.edit_theory.specs.Table.{SomeEdge, effects}

@@ -8,13 +8,13 @@ use native.Mathlib.Omega.{arith}
 use Rattle.graph.specs.Graph.{Cycle}
 use Rattle.graph.proofs.Walks.{paths-cong}
 use Rattle.graph.proofs.Using.{paths-using}
-use Rattle.answers.specs.declared.Answer.{Answer}
-use Rattle.answers.specs.Table.{First}
-use Rattle.answers.specs.Answers.{decided}
+use Rattle.answer.specs.declared.Answer.{Answer}
+use Rattle.answer.specs.Table.{First}
+use Rattle.answer.specs.Answers.{decided}
 use Rattle.sheet_theory.specs.Layout.{edgeAt}
 use Rattle.sheet_theory.specs.Conditions.{BadVertices}
 use Rattle.sheet_theory.specs.Valid.{Valid}
-use Rattle.answers.proofs.TableLaws.{first-past, first-rest, first-last, first-accepts}
+use Rattle.answer.proofs.TableLaws.{first-past, first-rest, first-last, first-accepts}
 use Rattle.sheet_theory.proofs.ValidLaws.{edge-le}
 use Rattle.edit_theory.specs.Edit.{Edges, Edit, insertEdge, named, marked}
 use Rattle.edit_theory.specs.Table.{SomeEdge, argued, effects}

@@ -5,11 +5,11 @@ use mathlib.Core.Logic.{_↔_}
 use mathlib.Core.List.{List}
 use Prim.Native.Nat.{ℕ}
 use lib.ListN.{length}
-use Rattle.answers.specs.Table.{First}
-use Rattle.answers.specs.Answers.{answer}
+use Rattle.answer.specs.Table.{First}
+use Rattle.answer.specs.Answers.{answer}
 use Rattle.sheet_theory.specs.Layout.{size, edgeAt}
-use Rattle.answers.proofs.TableLaws.{reflects-not, reflects-eq, first-true, first-iff}
-use Rattle.answers.proofs.AnswerLaws.{decided-old, answered-not}
+use Rattle.answer.proofs.TableLaws.{reflects-not, reflects-eq, first-true, first-iff}
+use Rattle.answer.proofs.AnswerLaws.{decided-old, answered-not}
 use Rattle.edit_theory.specs.Edit.{Edit}
 use Rattle.edit_theory.specs.Outcome.{editConditions, editTests, editNumber, editWords, editAnswer, editAfter}
 use Rattle.edit_theory.proofs.TestLaws.{closes-reflects}

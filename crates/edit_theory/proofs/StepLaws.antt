@@ -20,12 +20,12 @@ use Rattle.graph.proofs.Walks.{cycle-cong, cycle-widen, reach-refl, cycle-of}
 use Rattle.graph.proofs.Recurrence.{pathCount-cong}
 use Rattle.graph.proofs.Editing.{cycle-iff-closes}
 use Rattle.graph.proofs.Remainders.{insertion-mod, deletion-mod}
-use Rattle.answers.specs.declared.Answer.{Answer}
-use Rattle.answers.specs.Table.{First, Reflects}
-use Rattle.answers.specs.Answers.{decided, answered}
+use Rattle.answer.specs.declared.Answer.{Answer}
+use Rattle.answer.specs.Table.{First, Reflects}
+use Rattle.answer.specs.Answers.{decided, answered}
 use Rattle.sheet_theory.specs.Layout.{size, rowAt, countAt, edgeAt, setBits}
-use Rattle.answers.proofs.TableLaws.{reflects-iff, reflects-not, reflects-eq, first-true, first-only, first-past}
-use Rattle.answers.proofs.AnswerLaws.{answer-ext}
+use Rattle.answer.proofs.TableLaws.{reflects-iff, reflects-not, reflects-eq, first-true, first-only, first-past}
+use Rattle.answer.proofs.AnswerLaws.{answer-ext}
 use Rattle.sheet_theory.proofs.LayoutLaws.{size-only}
 use Rattle.edit_theory.specs.Edit.{Edges, at, Edit, vertexOf, predecessorsOf, successorsOf, namedAt, named, marked}
 use Rattle.edit_theory.specs.Table.{SomeEdge, effects}

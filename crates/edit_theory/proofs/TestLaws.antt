@@ -8,9 +8,9 @@ use native.Mathlib.Decide.{ℕ-discrete}
 use native.Mathlib.Omega.{arith}
 use Rattle.word.specs.Bit.{bit, hasBit}
 use Rattle.graph.specs.Update.{into, out, through, Closes}
-use Rattle.answers.specs.Table.{Reflects}
+use Rattle.answer.specs.Table.{Reflects}
 use Rattle.sheet_theory.specs.Layout.{countAt}
-use Rattle.answers.proofs.TableLaws.{reflects-none, reflects-iff, reflects-or, reflects-eq, reflects-lt}
+use Rattle.answer.proofs.TableLaws.{reflects-none, reflects-iff, reflects-or, reflects-eq, reflects-lt}
 use Rattle.edit_theory.specs.Edit.{namedAt}
 use Rattle.edit_theory.specs.Outcome.{some, someEdge, closes}
 use Rattle.edit_theory.specs.Table.{SomeOf}

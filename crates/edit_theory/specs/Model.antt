@@ -6,9 +6,9 @@ use Prim.Native.Nat.{ℕ, _<_}
 use lib.ListN.{length}
 use Rattle.sums.specs.Sum.{sum}
 use Rattle.graph.specs.Graph.{Exactly, IsPath, Cycle, Acyclic}
-use Rattle.answers.specs.declared.Answer.{Answer}
-use Rattle.answers.specs.Table.{Conditions, First}
-use Rattle.answers.specs.Answers.{decided}
+use Rattle.answer.specs.declared.Answer.{Answer}
+use Rattle.answer.specs.Table.{Conditions, First}
+use Rattle.answer.specs.Answers.{decided}
 use Rattle.sheet_theory.specs.Layout.{size, countAt, edgeAt}
 use Rattle.sheet_theory.specs.Conditions.{StrayRow}
 use Rattle.edit_theory.specs.Edit.{Edit, insertEdge, named, marked}

@@ -8,9 +8,9 @@ use lib.ListN.{length}
 use Rattle.word.specs.Bit.{bit, hasBit, ofBits}
 use Rattle.word.specs.Wrap.{minus}
 use Rattle.graph.specs.Update.{fromSum, toSum, Closes}
-use Rattle.answers.specs.declared.Answer.{Answer}
-use Rattle.answers.specs.Table.{_gives_, Conditions, Tests, firstTrue}
-use Rattle.answers.specs.Answers.{decided, answered}
+use Rattle.answer.specs.declared.Answer.{Answer}
+use Rattle.answer.specs.Table.{_gives_, Conditions, Tests, firstTrue}
+use Rattle.answer.specs.Answers.{decided, answered}
 use Rattle.sheet_theory.specs.Layout.{countAt, edgeAt, setBits, redone}
 use Rattle.sheet_theory.specs.Conditions.{BadLength, vertexTests, sizedTests}
 use Rattle.edit_theory.specs.Edit.{Edges, one, at, Edit, vertexOf, predecessorsOf, successorsOf, namedAt, marked}

@@ -6,7 +6,7 @@ use mathlib.Core.Bool.{Bool, true, false}
 use mathlib.Core.List.{[], _∷_}
 use Prim.Native.Nat.{ℕ, _<_}
 use Rattle.word.specs.Bit.{bit}
-use Rattle.answers.specs.Table.{_gives_, Conditions}
+use Rattle.answer.specs.Table.{_gives_, Conditions}
 use Rattle.sheet_theory.specs.Conditions.{BadVertices, NoVertex, StrayBit, vertexConditions}
 use Rattle.edit_theory.specs.Edit.{Edges, one, at, Edit, named}
 

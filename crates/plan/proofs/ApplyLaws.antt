@@ -12,11 +12,11 @@ use Rattle.record.specs.declared.reader.Reading.{Reading}
 use Rattle.record.specs.declared.reader.Reading.the-variants.{Read, End}
 use Rattle.record.specs.Reader.{recordAt, readingAt}
 use Rattle.record.proofs.ReaderLaws.{reading-read, reading-end}
-use Rattle.answers.specs.declared.Answer.{Answer}
-use Rattle.answers.specs.Answers.{answer, decided}
+use Rattle.answer.specs.declared.Answer.{Answer}
+use Rattle.answer.specs.Answers.{answer, decided}
 use Rattle.sheet_theory.specs.Layout.{Shape, setBits}
 use Rattle.sheet_theory.proofs.LayoutLaws.{square-le}
-use Rattle.answers.proofs.AnswerLaws.{decided-old}
+use Rattle.answer.proofs.AnswerLaws.{decided-old}
 use Rattle.edit_theory.specs.Edit.{edgeEdit, insertEdge, deleteEdge}
 use Rattle.edit_theory.specs.Outcome.{editAnswer, editAfter}
 use Rattle.edit_theory.proofs.Refusals.{edit-refused}

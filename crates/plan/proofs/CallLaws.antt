@@ -7,12 +7,12 @@ use native.Mathlib.Decide.{ℕ-discrete}
 use native.Mathlib.Omega.{arith}
 use lib.ListN.{length}
 use Rattle.text.specs.Text.{written}
-use Rattle.answers.specs.declared.Answer.{Answer}
-use Rattle.answers.specs.Table.{_gives_, Conditions, First}
-use Rattle.answers.specs.Answers.{answer, decided}
+use Rattle.answer.specs.declared.Answer.{Answer}
+use Rattle.answer.specs.Table.{_gives_, Conditions, First}
+use Rattle.answer.specs.Answers.{answer, decided}
 use Rattle.sheet_theory.specs.Layout.{Shape, setBits}
-use Rattle.answers.proofs.TableLaws.{first-past}
-use Rattle.answers.proofs.AnswerLaws.{decided-old}
+use Rattle.answer.proofs.TableLaws.{first-past}
+use Rattle.answer.proofs.AnswerLaws.{decided-old}
 use Rattle.sheet_theory.proofs.Meaning.{valid-edges-le}
 use Rattle.plan_theory.specs.PlanOf.{planOf}
 use Rattle.plan_theory.specs.Calls.{BadPlan, lengthNumber, readConditions, readAnswer, ReadPlan, ShortBuffer, writeConditions, WritePlan}

@@ -2,9 +2,9 @@
 use mathlib.Core.Path.{_≡_}
 use mathlib.Core.List.{List}
 use Prim.Native.Nat.{ℕ}
-use Rattle.answers.specs.declared.Answer.{Answer}
-use Rattle.answers.specs.Table.{First}
-use Rattle.answers.specs.Answers.{answer}
+use Rattle.answer.specs.declared.Answer.{Answer}
+use Rattle.answer.specs.Table.{First}
+use Rattle.answer.specs.Answers.{answer}
 use Rattle.plan_theory.specs.Records.{Applied}
 use Rattle.plan_theory.specs.Calls.{readConditions, readAnswer, readAfter}
 

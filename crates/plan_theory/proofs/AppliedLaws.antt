@@ -9,17 +9,17 @@ use native.Mathlib.Omega.{arith}
 use lib.ListN.{length}
 use Rattle.record.specs.declared.Record.{Record}
 use Rattle.record.specs.declared.Record.the-variants.{Insert, Delete, Malformed}
-use Rattle.answers.specs.declared.Answer.{Answer}
-use Rattle.answers.specs.Table.{First}
-use Rattle.answers.specs.Answers.{answer, decided}
-use Rattle.answers.proofs.TableLaws.{first-only}
-use Rattle.answers.proofs.AnswerLaws.{decided-old}
+use Rattle.answer.specs.declared.Answer.{Answer}
+use Rattle.answer.specs.Table.{First}
+use Rattle.answer.specs.Answers.{answer, decided}
+use Rattle.answer.proofs.TableLaws.{first-only}
+use Rattle.answer.proofs.AnswerLaws.{decided-old}
 use Rattle.edit_theory.specs.Edit.{Edit, insertEdge, deleteEdge}
 use Rattle.edit_theory.specs.Outcome.{editNumber, editWords, editAfter}
 use Rattle.edit_theory.specs.Model.{Model, effect, modelConditions, edgeCount}
 use Rattle.edit_theory.proofs.FreshLaws.{Modelled}
 use Rattle.edit_theory.proofs.StepLaws.{number-first, accepted-modelled}
-use Rattle.model.specs.Run.{Run, done, then, answers, after}
+use Rattle.edit_lists.specs.Run.{Run, done, then, answers, after}
 use Rattle.plan_theory.specs.Records.{recordEdits, edits, numberOn, leftBy, Applied, applied}
 use Rattle.plan_theory.specs.Taken.{RecordNumber, recordEffect, Taken, Stops}
 use Rattle.plan_theory.specs.Accepted.{Accepted}

@@ -8,9 +8,9 @@ use native.Mathlib.Omega.{arith}
 use lib.ListN.{length}
 use Rattle.record.specs.declared.Record.{Record}
 use Rattle.record.specs.declared.Record.the-variants.{Insert, Delete, Malformed}
-use Rattle.answers.specs.Table.{First}
+use Rattle.answer.specs.Table.{First}
 use Rattle.sheet_theory.specs.Conditions.{BadVertices}
-use Rattle.answers.proofs.TableLaws.{first-other, first-last}
+use Rattle.answer.proofs.TableLaws.{first-other, first-last}
 use Rattle.edit_theory.specs.Edit.{insertEdge, deleteEdge}
 use Rattle.edit_theory.specs.Model.{Model, modelConditions}
 use Rattle.edit_theory.proofs.NamedLaws.{some-one}

@@ -8,8 +8,8 @@ use Rattle.sums.specs.Gather.{gather}
 use Rattle.word.specs.Bit.{bitCount, ofBits}
 use Rattle.graph.specs.Update.{fromSum, toSum}
 use Rattle.record.specs.Record.{insertLetter, deleteLetter, encoded, areDigits, decoded}
-use Rattle.answers.specs.Table.{firstTrue}
-use Rattle.answers.specs.Answers.{answer}
+use Rattle.answer.specs.Table.{firstTrue}
+use Rattle.answer.specs.Answers.{answer}
 use Rattle.sheet_theory.specs.Layout.{setBits, build, redoneWord, redone}
 use Rattle.sheet_theory.proofs.Examples.{D}
 use Rattle.edit_theory.specs.Outcome.{some, someEdge, closes, editedRow, editedBy, editedCount, edited}

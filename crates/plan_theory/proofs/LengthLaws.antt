@@ -7,8 +7,8 @@ use Prim.Native.Nat.{ℕ, _%_, _≤_, _<_}
 use native.Mathlib.Omega.{arith}
 use lib.Dec.{ltb, eqb}
 use lib.ListN.{length}
-use Rattle.answers.specs.Table.{_gives_, First, Reflects}
-use Rattle.answers.proofs.TableLaws.{reflects-or, reflects-not, reflects-lt, reflects-eq, reflects-false, first-true, first-here, first-next, first-none}
+use Rattle.answer.specs.Table.{_gives_, First, Reflects}
+use Rattle.answer.proofs.TableLaws.{reflects-or, reflects-not, reflects-lt, reflects-eq, reflects-false, first-true, first-here, first-next, first-none}
 use Rattle.plan_theory.specs.Calls.{mostBytes, BadPlan, lengthNumber}
 
 -- the test decides 13

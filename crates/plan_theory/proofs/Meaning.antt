@@ -10,18 +10,18 @@ use Rattle.sums.specs.Gather.{gather}
 use Rattle.text.specs.Text.{written}
 use Rattle.text.proofs.TextLaws.{written-first, written-rest}
 use Rattle.record.specs.Record.{OfForm}
-use Rattle.answers.specs.declared.Answer.{Answer}
-use Rattle.answers.specs.Table.{_gives_, First}
-use Rattle.answers.specs.Answers.{answer, decided}
+use Rattle.answer.specs.declared.Answer.{Answer}
+use Rattle.answer.specs.Table.{_gives_, First}
+use Rattle.answer.specs.Answers.{answer, decided}
 use Rattle.sheet_theory.specs.Layout.{Shape, setBits}
 use Rattle.sheet_theory.specs.Valid.{Valid}
-use Rattle.answers.proofs.TableLaws.{first-only, first-iff, first-past, first-last, first-accepts}
-use Rattle.answers.proofs.AnswerLaws.{decided-old, answer-ext}
+use Rattle.answer.proofs.TableLaws.{first-only, first-iff, first-past, first-last, first-accepts}
+use Rattle.answer.proofs.AnswerLaws.{decided-old, answer-ext}
 use Rattle.recount_theory.proofs.Meaning.{valid-validates}
 use Rattle.edit_theory.specs.Model.{Model, opened, Fresh}
 use Rattle.edit_theory.proofs.FreshLaws.{modelled-valid, valid-modelled}
-use Rattle.model.specs.Run.{Run}
-use Rattle.model.proofs.WholeLists.{whole-list}
+use Rattle.edit_lists.specs.Run.{Run}
+use Rattle.edit_lists.proofs.WholeLists.{whole-list}
 use Rattle.plan_theory.specs.Records.{records, edits, applied}
 use Rattle.plan_theory.specs.Taken.{Taken, Stops, ClosesAt}
 use Rattle.plan_theory.specs.Accepted.{AcceptedPlan}

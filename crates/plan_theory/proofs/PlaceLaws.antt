@@ -9,8 +9,8 @@ use Rattle.record.specs.declared.Record.{Record}
 use Rattle.record.specs.declared.Record.the-variants.{Insert, Delete, Malformed}
 use Rattle.record.specs.Record.{OfForm}
 use Rattle.record.proofs.RecordLaws.{malformed-iff}
-use Rattle.answers.specs.Table.{First}
-use Rattle.answers.proofs.TableLaws.{first-other}
+use Rattle.answer.specs.Table.{First}
+use Rattle.answer.proofs.TableLaws.{first-other}
 use Rattle.edit_theory.specs.Edit.{one, edgeEdit}
 use Rattle.edit_theory.specs.Table.{effects}
 use Rattle.edit_theory.specs.Model.{Model, modelConditions}

@@ -11,12 +11,12 @@ use Rattle.graph.specs.Graph.{_isIn_, Distinct, Edge, Acyclic}
 use Rattle.graph.proofs.Walks.{cycle-widen, cycle-of, reach-refl}
 use Rattle.record.specs.declared.Record.{Record}
 use Rattle.record.specs.declared.Record.the-variants.{Insert, Delete, Malformed}
-use Rattle.answers.specs.declared.Answer.{Answer}
-use Rattle.answers.specs.Table.{_gives_, First}
-use Rattle.answers.specs.Answers.{answer, decided}
+use Rattle.answer.specs.declared.Answer.{Answer}
+use Rattle.answer.specs.Table.{_gives_, First}
+use Rattle.answer.specs.Answers.{answer, decided}
 use Rattle.sheet_theory.specs.Layout.{edgeAt, setBits, emptySheet}
 use Rattle.sheet_theory.specs.Valid.{Valid}
-use Rattle.answers.proofs.TableLaws.{first-only}
+use Rattle.answer.proofs.TableLaws.{first-only}
 use Rattle.sheet_theory.proofs.ValidLaws.{edge-le, accepted-valid, valid-passed}
 use Rattle.sheet_theory.proofs.Meaning.{empty-edge, empty-valid}
 use Rattle.edit_theory.specs.Edit.{Edit, insertEdge}

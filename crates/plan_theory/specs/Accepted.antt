@@ -4,13 +4,13 @@ use mathlib.Core.List.{List, map}
 use Prim.Native.Nat.{ℕ}
 use lib.ListN.{length, replicate}
 use Rattle.record.specs.declared.Record.{Record}
-use Rattle.answers.specs.declared.Answer.{Answer}
-use Rattle.answers.specs.Answers.{answer}
+use Rattle.answer.specs.declared.Answer.{Answer}
+use Rattle.answer.specs.Answers.{answer}
 use Rattle.sheet_theory.specs.Layout.{setBits}
 use Rattle.sheet_theory.specs.Valid.{Valid}
 use Rattle.edit_theory.specs.Model.{Model, opened, Fresh}
-use Rattle.model.specs.Run.{Run, answers, after}
-use Rattle.model.specs.WholeList.{WholeList}
+use Rattle.edit_lists.specs.Run.{Run, answers, after}
+use Rattle.edit_lists.specs.WholeList.{WholeList}
 use Rattle.plan_theory.specs.Records.{records, edits}
 use Rattle.plan_theory.specs.Taken.{Taken}
 

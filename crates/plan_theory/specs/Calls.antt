@@ -7,9 +7,9 @@ use Prim.Native.Nat.{ℕ, _*_, _%_, _<_}
 use lib.Dec.{ltb, eqb}
 use lib.ListN.{length}
 use Rattle.text.specs.Text.{written}
-use Rattle.answers.specs.declared.Answer.{Answer}
-use Rattle.answers.specs.Table.{_gives_, Conditions, First, firstTrue}
-use Rattle.answers.specs.Answers.{answer, decided}
+use Rattle.answer.specs.declared.Answer.{Answer}
+use Rattle.answer.specs.Table.{_gives_, Conditions, First, firstTrue}
+use Rattle.answer.specs.Answers.{answer, decided}
 use Rattle.sheet_theory.specs.Layout.{setBits}
 use Rattle.sheet_theory.specs.Valid.{validConditions}
 use Rattle.plan_theory.specs.Records.{records, Applied, applied}

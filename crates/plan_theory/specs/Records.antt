@@ -7,7 +7,7 @@ use Rattle.record.specs.declared.Record.{Record}
 use Rattle.record.specs.declared.Record.the-variants.{Insert, Delete, Malformed}
 use Rattle.record.specs.Record.{recordNumber}
 use Rattle.record.specs.Reader.{recordAt}
-use Rattle.answers.specs.Answers.{decided}
+use Rattle.answer.specs.Answers.{decided}
 use Rattle.edit_theory.specs.Edit.{Edit, insertEdge, deleteEdge}
 use Rattle.edit_theory.specs.Outcome.{editAnswer, editAfter}
 

@@ -9,7 +9,7 @@ use Rattle.record.specs.declared.Record.{Record}
 use Rattle.record.specs.declared.Record.the-variants.{Insert, Malformed}
 use Rattle.record.specs.Record.{recordNumber}
 use Rattle.graph.specs.Graph.{Cycle}
-use Rattle.answers.specs.Table.{First}
+use Rattle.answer.specs.Table.{First}
 use Rattle.edit_theory.specs.Edit.{insertEdge}
 use Rattle.edit_theory.specs.Model.{Model, effect, modelConditions}
 use Rattle.plan_theory.specs.Records.{byEdit}

@@ -7,14 +7,14 @@ use native.Mathlib.Omega.{arith}
 use borrow.Author.Tests.{eq-eqb, ne-eqb}
 use lib.ListN.{length, take}
 use Rattle.text.specs.Text.{written}
-use Rattle.answers.specs.declared.Answer.{Answer}
-use Rattle.answers.specs.Table.{_gives_, Tests, firstTrue}
-use Rattle.answers.specs.Answers.{answer}
+use Rattle.answer.specs.declared.Answer.{Answer}
+use Rattle.answer.specs.Table.{_gives_, Tests, firstTrue}
+use Rattle.answer.specs.Answers.{answer}
 use Rattle.sheet_theory.specs.Conditions.{vertexTests, sizedTests}
 use Rattle.sheet_theory.specs.Internal.{shapeNumber}
-use Rattle.answers.proofs.TableLaws.{first-here, first-next, first-none, first-stops, first-passes}
+use Rattle.answer.proofs.TableLaws.{first-here, first-next, first-none, first-stops, first-passes}
 use Rattle.sheet_theory.proofs.ShapeLaws.{sized-stops, sized-passes}
-use Rattle.answers.proofs.AnswerLaws.{answered-refused, answered-accepted, decided-refused, decided-accepted}
+use Rattle.answer.proofs.AnswerLaws.{answered-refused, answered-accepted, decided-refused, decided-accepted}
 use Rattle.query_theory.specs.Unrank.{walk, numberTests, walkTests, unrankNumber, unrankAnswer, unrankAfter}
 use Rattle.query_theory.specs.Rank.{someNoVertex, broken, pathTests, rankNumber, pathNumber, rankAnswer}
 use Rattle.query.specs.Internal.{beforeWalk, WalkKept}

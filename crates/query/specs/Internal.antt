@@ -4,7 +4,7 @@ use mathlib.Core.Logic.{_⊎_}
 use mathlib.Core.List.{List, []}
 use Prim.Native.Nat.{ℕ, _≤_, _<_}
 use lib.ListN.{length, getD, take}
-use Rattle.answers.specs.Table.{firstTrue}
+use Rattle.answer.specs.Table.{firstTrue}
 use Rattle.sheet_theory.specs.Layout.{countAt, edgeAt}
 use Rattle.sheet_theory.specs.Conditions.{vertexTests, sizedTests}
 use Rattle.query.specs.declared.walk.Next.{Next}

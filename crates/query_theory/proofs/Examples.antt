@@ -4,8 +4,8 @@ use mathlib.Core.Path.{_≡_, refl}
 use mathlib.Core.List.{List, [], _∷_}
 use Prim.Native.Nat.{ℕ}
 use Rattle.sums.specs.Sum.{sum}
-use Rattle.answers.specs.Table.{firstTrue}
-use Rattle.answers.specs.Answers.{answer}
+use Rattle.answer.specs.Table.{firstTrue}
+use Rattle.answer.specs.Answers.{answer}
 use Rattle.sheet_theory.proofs.Examples.{D}
 use Rattle.query_theory.specs.Walk.{headed, tryEdge, tried, walked}
 use Rattle.query_theory.specs.Number.{passed, passedOver, end}

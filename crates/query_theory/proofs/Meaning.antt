@@ -17,13 +17,13 @@ use Rattle.graph.proofs.Walks.{walk-below, path-length-le}
 use Rattle.graph.proofs.Bound.{paths-below}
 use Rattle.graph.proofs.Through.{through-le, paths-through, path-without-iff}
 use Rattle.text.specs.Text.{written}
-use Rattle.answers.specs.declared.Answer.{Answer}
-use Rattle.answers.specs.Table.{Conditions, First}
-use Rattle.answers.specs.Answers.{answer, decided, answered}
+use Rattle.answer.specs.declared.Answer.{Answer}
+use Rattle.answer.specs.Table.{Conditions, First}
+use Rattle.answer.specs.Answers.{answer, decided, answered}
 use Rattle.sheet_theory.specs.Layout.{Shape, countAt, edgeAt}
 use Rattle.sheet_theory.specs.Conditions.{NoVertex, vertexConditions}
 use Rattle.sheet_theory.specs.Valid.{Valid}
-use Rattle.answers.proofs.TableLaws.{first-other, first-past, first-rest}
+use Rattle.answer.proofs.TableLaws.{first-other, first-past, first-rest}
 use Rattle.sheet_theory.proofs.ShapeLaws.{shape-not, shape-passed, shape-rest}
 use Rattle.sheet_theory.proofs.ValidLaws.{edge-le, valid-count}
 use Rattle.query_theory.specs.Before.{Before}

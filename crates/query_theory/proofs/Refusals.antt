@@ -9,13 +9,13 @@ use native.Mathlib.Omega.{arith}
 use lib.Dec.{eqb}
 use lib.ListN.{length}
 use Rattle.text.specs.Text.{written}
-use Rattle.answers.specs.Table.{Conditions, First, Tests, firstTrue, Reflects}
-use Rattle.answers.specs.Answers.{answer}
+use Rattle.answer.specs.Table.{Conditions, First, Tests, firstTrue, Reflects}
+use Rattle.answer.specs.Answers.{answer}
 use Rattle.sheet_theory.specs.Layout.{edgeAt}
 use Rattle.sheet_theory.specs.Conditions.{vertexConditions, vertexTests, sized, sizedTests}
-use Rattle.answers.proofs.TableLaws.{Agree, reflects-none, reflects-iff, reflects-or, reflects-lt, reflects-le, reflects-eq, first-true, first-iff}
+use Rattle.answer.proofs.TableLaws.{Agree, reflects-none, reflects-iff, reflects-or, reflects-lt, reflects-le, reflects-eq, first-true, first-iff}
 use Rattle.sheet_theory.proofs.ShapeLaws.{sized-agree, vertices-agree}
-use Rattle.answers.proofs.AnswerLaws.{answered-not, decided-old}
+use Rattle.answer.proofs.AnswerLaws.{answered-not, decided-old}
 use Rattle.query_theory.specs.ReachesWithout.{edgeConditions, edgeTests, reachesWithoutConditions, reachesWithoutNumber, reachesWithoutAnswer}
 use Rattle.query_theory.specs.Unrank.{walk, numberConditions, numberTests, walkConditions, walkTests, unrankConditions, unrankNumber, unrankAnswer, unrankAfter}
 use Rattle.query_theory.specs.Rank.{SomeNoVertex, someNoVertex, Gap, gap, Broken, broken, pathConditions, pathTests, rankConditions, rankNumber, rankAnswer}

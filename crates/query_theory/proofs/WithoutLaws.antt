@@ -4,10 +4,10 @@ use mathlib.Core.Bool.{Bool, cond}
 use mathlib.Core.List.{List}
 use Prim.Native.Nat.{ℕ}
 use borrow.Author.Tests.{eq-eqb, ne-eqb}
-use Rattle.answers.specs.declared.Answer.{Answer}
-use Rattle.answers.specs.Answers.{answer}
+use Rattle.answer.specs.declared.Answer.{Answer}
+use Rattle.answer.specs.Answers.{answer}
 use Rattle.sheet_theory.specs.Layout.{countAt}
-use Rattle.answers.proofs.AnswerLaws.{answered-accepted}
+use Rattle.answer.proofs.AnswerLaws.{answered-accepted}
 use Rattle.query_theory.specs.ReachesWithout.{reachesWithoutNumber, product, reachesWithout, reachesWithoutAnswer}
 
 module _ (n : ℕ) (s : List ℕ) (i j u v k : ℕ) (ek : k ≡ reachesWithoutNumber n s i j u v) (z : k ≡ 0)

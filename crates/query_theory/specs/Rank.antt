@@ -8,9 +8,9 @@ use Prim.Native.Nat.{ℕ, _%_, _^_, _<_}
 use lib.Dec.{ltb, leb, eqb}
 use lib.ListN.{length}
 use Rattle.graph.specs.Graph.{_isIn_}
-use Rattle.answers.specs.declared.Answer.{Answer}
-use Rattle.answers.specs.Table.{_gives_, Conditions, Tests, firstTrue}
-use Rattle.answers.specs.Answers.{answered}
+use Rattle.answer.specs.declared.Answer.{Answer}
+use Rattle.answer.specs.Table.{_gives_, Conditions, Tests, firstTrue}
+use Rattle.answer.specs.Answers.{answered}
 use Rattle.sheet_theory.specs.Layout.{countAt, edgeAt}
 use Rattle.sheet_theory.specs.Conditions.{NoVertex, sized, sizedTests}
 use Rattle.query_theory.specs.Number.{passedOver, end}

@@ -6,9 +6,9 @@ use Prim.Native.Nat.{ℕ, _≤_, _<_}
 use lib.Dec.{ltb, leb, eqb}
 use lib.ListN.{length, take}
 use Rattle.text.specs.Text.{written}
-use Rattle.answers.specs.declared.Answer.{Answer}
-use Rattle.answers.specs.Table.{_gives_, Conditions, Tests, firstTrue}
-use Rattle.answers.specs.Answers.{decided, answered}
+use Rattle.answer.specs.declared.Answer.{Answer}
+use Rattle.answer.specs.Table.{_gives_, Conditions, Tests, firstTrue}
+use Rattle.answer.specs.Answers.{decided, answered}
 use Rattle.sheet_theory.specs.Layout.{countAt, edgeAt}
 use Rattle.sheet_theory.specs.Conditions.{vertexConditions, vertexTests, sized, sizedTests}
 use Rattle.query_theory.specs.Walk.{walked}

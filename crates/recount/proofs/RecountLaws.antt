@@ -8,17 +8,17 @@ use native.Mathlib.Omega.{arith}
 use lib.ListN.{length, getD}
 use Rattle.graph.specs.Graph.{Exactly, IsPath, Cycle}
 use Rattle.graph.specs.Count.{pathCount}
-use Rattle.answers.specs.Table.{Reflects, First}
+use Rattle.answer.specs.Table.{Reflects, First}
 use Rattle.sheet_theory.specs.Conditions.{StrayRow}
 use Rattle.sheet_theory.specs.Layout.{Shape, rowAt, countAt, edgeAt, setBits}
 use Rattle.sheet_theory.specs.Internal.{shapeNumber}
-use Rattle.answers.specs.declared.Answer.{Answer}
-use Rattle.answers.specs.Answers.{answer}
-use Rattle.answers.proofs.TableLaws.{reflects-false}
+use Rattle.answer.specs.declared.Answer.{Answer}
+use Rattle.answer.specs.Answers.{answer}
+use Rattle.answer.proofs.TableLaws.{reflects-false}
 use Rattle.sheet_theory.proofs.ValidLaws.{paths-exactly, paths-fit}
 use Rattle.sheet_theory.proofs.LayoutLaws.{redone-ext, length-redone, row-redone, count-redone, rest-redone}
 use Rattle.sheet_theory.proofs.ShapeLaws.{shape-of, shape-refused, shape-passed}
-use Rattle.answers.proofs.AnswerLaws.{decided-old}
+use Rattle.answer.proofs.AnswerLaws.{decided-old}
 use Rattle.sheet_theory.proofs.SetBitsLaws.{setBits-cong}
 use Rattle.recount_theory.specs.Calls.{rowConditions, recountConditions, Recounted, Recount}
 use Rattle.count_rows.specs.Internal.{counted}

@@ -8,13 +8,13 @@ use Prim.Native.Nat.{ℕ, zero, suc, _<_}
 use native.Mathlib.Omega.{arith}
 use lib.ListN.{length}
 use Rattle.sheet_theory.specs.Layout.{Shape}
-use Rattle.answers.specs.Table.{_gives_, Conditions, First, Reflects}
+use Rattle.answer.specs.Table.{_gives_, Conditions, First, Reflects}
 use Rattle.sheet_theory.specs.Conditions.{StrayRow, vertexConditions, sized}
 use Rattle.sheet_theory.specs.Valid.{Valid, validConditions}
 use Rattle.sheet_theory.specs.Internal.{RowHolds, shapeNumber, vertexNumber}
-use Rattle.answers.specs.declared.Answer.{Answer}
-use Rattle.answers.specs.Answers.{answer, decided}
-use Rattle.answers.proofs.TableLaws.{reflects-none, reflects-false, reflects-iff, first-only, first-more}
+use Rattle.answer.specs.declared.Answer.{Answer}
+use Rattle.answer.specs.Answers.{answer, decided}
+use Rattle.answer.proofs.TableLaws.{reflects-none, reflects-false, reflects-iff, first-only, first-more}
 use Rattle.sheet_theory.proofs.ValidLaws.{valid-iff-holds, accepted-valid, valid-passed}
 use Rattle.sheet_theory.proofs.ShapeLaws.{shape-of, shape-refused, shape-passed, vertex-first}
 use Rattle.recount.specs.Internal.{SheetNumber}

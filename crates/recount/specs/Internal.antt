@@ -1,7 +1,7 @@
 -- What the internal functions promise, to other crates too. No public call's contract cites these. Definitions only. Assumes nothing.
 use mathlib.Core.List.{List, []}
 use Prim.Native.Nat.{ℕ}
-use Rattle.answers.specs.Table.{First}
+use Rattle.answer.specs.Table.{First}
 use Rattle.sheet_theory.specs.Valid.{validConditions}
 
 -- k is what the checks of a sheet that has to be valid give: 1, 2, 9; or 0

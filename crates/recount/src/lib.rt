@@ -1,7 +1,7 @@
 // The counts of a sheet worked out afresh from its rows, and the test whether a sheet is valid. The calls of this file answer every n,
 // every length and all words.
 ghost use mathlib.Core.Path.{_≡_};
-ghost use Rattle.answers.specs.Table.{Reflects};
+ghost use Rattle.answer.specs.Table.{Reflects};
 ghost use Rattle.sheet_theory.specs.Layout.{Shape};
 ghost use Rattle.sheet_theory.specs.Valid.{Valid};
 ghost use Rattle.sheet_theory.specs.Internal.{RowsBelow};

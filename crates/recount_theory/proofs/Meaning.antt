@@ -9,15 +9,15 @@ use lib.ListN.{length}
 use Rattle.word.specs.Bit.{bit}
 use Rattle.graph.specs.Graph.{Cycle}
 use Rattle.graph.proofs.Walks.{cycle-cong, paths-cong}
-use Rattle.answers.specs.declared.Answer.{Answer}
-use Rattle.answers.specs.Table.{_gives_, First}
-use Rattle.answers.specs.Answers.{answer, decided}
+use Rattle.answer.specs.declared.Answer.{Answer}
+use Rattle.answer.specs.Table.{_gives_, First}
+use Rattle.answer.specs.Answers.{answer, decided}
 use Rattle.sheet_theory.specs.Layout.{Shape, size, rowAt, countAt, edgeAt}
 use Rattle.sheet_theory.specs.Conditions.{BadVertices, BadLength, StrayRow}
 use Rattle.sheet_theory.specs.Valid.{Valid}
-use Rattle.answers.proofs.TableLaws.{first-only, first-past, first-rest, first-last, first-cong}
+use Rattle.answer.proofs.TableLaws.{first-only, first-past, first-rest, first-last, first-cong}
 use Rattle.sheet_theory.proofs.ShapeLaws.{accepted-shape, shape-passed}
-use Rattle.answers.proofs.AnswerLaws.{answer-ext}
+use Rattle.answer.proofs.AnswerLaws.{answer-ext}
 use Rattle.sheet_theory.proofs.LayoutLaws.{length-redone, row-redone}
 use Rattle.sheet_theory.proofs.ValidLaws.{valid-only}
 use Rattle.sheet_theory.proofs.SetBitsLaws.{setBits-cong}

@@ -4,12 +4,12 @@ use mathlib.Core.Path.{_≡_, refl, _∙_}
 use mathlib.Core.Logic.{inl, inr, _↔_}
 use mathlib.Core.List.{List, []}
 use Prim.Native.Nat.{ℕ}
-use Rattle.answers.specs.declared.Answer.{Answer}
-use Rattle.answers.specs.Table.{First}
-use Rattle.answers.specs.Answers.{answer}
+use Rattle.answer.specs.declared.Answer.{Answer}
+use Rattle.answer.specs.Table.{First}
+use Rattle.answer.specs.Answers.{answer}
 use Rattle.sheet_theory.specs.Layout.{setBits}
-use Rattle.answers.proofs.TableLaws.{first-iff}
-use Rattle.answers.proofs.AnswerLaws.{decided-old, answer-ext}
+use Rattle.answer.proofs.TableLaws.{first-iff}
+use Rattle.answer.proofs.AnswerLaws.{decided-old, answer-ext}
 use Rattle.sheet_theory.proofs.ShapeLaws.{shape-passed}
 use Rattle.recount_theory.specs.Calls.{recountConditions, Recount, validateConditions, Validate}
 

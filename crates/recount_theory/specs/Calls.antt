@@ -4,9 +4,9 @@ use mathlib.Core.Logic.{_⊎_}
 use mathlib.Core.List.{List, [], _∷_}
 use Prim.Native.Nat.{ℕ, _<_}
 use Rattle.graph.specs.Graph.{Exactly, IsPath, Cycle}
-use Rattle.answers.specs.declared.Answer.{Answer}
-use Rattle.answers.specs.Table.{_gives_, Conditions, First}
-use Rattle.answers.specs.Answers.{decided}
+use Rattle.answer.specs.declared.Answer.{Answer}
+use Rattle.answer.specs.Table.{_gives_, Conditions, First}
+use Rattle.answer.specs.Answers.{decided}
 use Rattle.sheet_theory.specs.Layout.{rowAt, countAt, edgeAt, setBits, redone}
 use Rattle.sheet_theory.specs.Conditions.{StrayRow, sized}
 use Rattle.sheet_theory.specs.Valid.{Valid}

@@ -7,11 +7,11 @@ use native.Mathlib.Decide.{ℕ-discrete}
 use native.Mathlib.Omega.{arith}
 use borrow.Author.Tests.{ltb-true, ltb-false}
 use lib.Dec.{ltb}
-use Rattle.answers.specs.Table.{Reflects}
+use Rattle.answer.specs.Table.{Reflects}
 use Rattle.sheet_theory.specs.Layout.{rowAt}
 use Rattle.sheet_theory.specs.Conditions.{StrayRow}
 use Rattle.sheet_theory.specs.Internal.{RowsBelow}
-use Rattle.answers.proofs.TableLaws.{reflects-true, reflects-none, reflects-false}
+use Rattle.answer.proofs.TableLaws.{reflects-true, reflects-none, reflects-false}
 use Rattle.sheet_theory.proofs.StrayLaws.{stray-iff, rows-iff}
 
 pub rows-below : (n : ℕ) (s : List ℕ) (t : Bool) → Reflects t (StrayRow n s) → t ≡ false → RowsBelow n s

@@ -1,13 +1,13 @@
 // The checks that calls share.
 ghost use mathlib.Core.Path.{_≡_};
-ghost use Rattle.answers.specs.Table.{Reflects};
-ghost use Rattle.answers.specs.Answers.{decided};
+ghost use Rattle.answer.specs.Table.{Reflects};
+ghost use Rattle.answer.specs.Answers.{decided};
 ghost use Rattle.sheet_theory.specs.Layout.{Shape};
 ghost use Rattle.sheet_theory.specs.Conditions.{StrayRow};
 ghost use Rattle.sheet_theory.specs.Internal.{shapeNumber, vertexNumber, verticesNumber};
 use crate::layout;
 use crate::layout::Sheet;
-use answers::Refusal;
+use answer::Refusal;
 
 // Internal: 1 if n is not 1 to 64, else 2 if a sheet of n vertices has not so many words, else 0.
 pub fn shape_number(n: usize, words: usize) -> u64

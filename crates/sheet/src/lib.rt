@@ -8,8 +8,8 @@ mod fill;
 pub mod layout;
 pub mod rows;
 
-pub use answers::Answer;
-pub use answers::Refusal;
+pub use answer::Answer;
+pub use answer::Refusal;
 pub use layout::Sheet;
 
 // The empty sheet of n vertices, whatever the words were. Refused by 1, 2. The value is 0.

@@ -18,7 +18,7 @@ use Rattle.graph.specs.Graph.{Exactly, IsPath}
 use Rattle.graph.proofs.Bound.{bound}
 use Rattle.graph.proofs.Edges.{edges-le}
 use Rattle.graph.proofs.Walks.{edgeless-acyclic}
-use Rattle.answers.specs.Answers.{answer, decided, answered}
+use Rattle.answer.specs.Answers.{answer, decided, answered}
 use Rattle.sheet_theory.specs.Layout.{Shape, size, rowAt, countAt, edgeAt, emptySheet, setBits}
 use Rattle.sheet_theory.specs.Conditions.{vertexConditions}
 use Rattle.sheet_theory.specs.Valid.{Valid}

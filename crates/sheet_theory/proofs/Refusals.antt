@@ -4,12 +4,12 @@ use mathlib.Core.Path.{_≡_}
 use mathlib.Core.Logic.{_↔_}
 use mathlib.Core.List.{List}
 use Prim.Native.Nat.{ℕ}
-use Rattle.answers.specs.Table.{First}
-use Rattle.answers.specs.Answers.{answer}
+use Rattle.answer.specs.Table.{First}
+use Rattle.answer.specs.Answers.{answer}
 use Rattle.sheet_theory.specs.Layout.{emptySheet}
 use Rattle.sheet_theory.specs.Calls.{emptyConditions, emptyNumber, emptyAnswer, emptyAfter, pathCountConditions, pathCountNumber, pathCountAnswer}
-use Rattle.answers.proofs.TableLaws.{first-iff}
-use Rattle.answers.proofs.AnswerLaws.{decided-old, answered-not}
+use Rattle.answer.proofs.TableLaws.{first-iff}
+use Rattle.answer.proofs.AnswerLaws.{decided-old, answered-not}
 use Rattle.sheet_theory.proofs.ShapeLaws.{shape-first, vertices-first}
 
 pub empty-table : (n : ℕ) (s : List ℕ) (k : ℕ) → (emptyAnswer n s .number ≡ k) ↔ First (emptyConditions n s) k

@@ -10,12 +10,12 @@ use native.Mathlib.Decide.{decLt, ℕ-discrete}
 use native.Mathlib.Omega.{arith}
 use lib.Dec.{ltb, leb}
 use lib.ListN.{length}
-use Rattle.answers.specs.Table.{Conditions, First, Tests, firstTrue, Reflects}
+use Rattle.answer.specs.Table.{Conditions, First, Tests, firstTrue, Reflects}
 use Rattle.sheet_theory.specs.Layout.{Shape, size}
 use Rattle.sheet_theory.specs.Conditions.{BadVertices, BadLength, vertexConditions, vertexTests, sized, sizedTests}
 use Rattle.sheet_theory.specs.Internal.{shapeNumber, vertexNumber, verticesNumber}
-use Rattle.answers.proofs.TableLaws.{Agree, reflects-or, reflects-not, reflects-lt, reflects-le, reflects-eq, reflects-false}
-use Rattle.answers.proofs.TableLaws.{first-true, first-past, first-rest, first-more, first-here, first-next, first-none, first-stops, first-passes}
+use Rattle.answer.proofs.TableLaws.{Agree, reflects-or, reflects-not, reflects-lt, reflects-le, reflects-eq, reflects-false}
+use Rattle.answer.proofs.TableLaws.{first-true, first-past, first-rest, first-more, first-here, first-next, first-none, first-stops, first-passes}
 
 -- a sheet of which neither holds has the shape
 pub shape-not : (n : ℕ) (s : List ℕ) → ¬ (BadVertices n) → ¬ (BadLength n s) → Shape n s

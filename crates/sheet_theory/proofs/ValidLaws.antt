@@ -18,12 +18,12 @@ use Rattle.graph.proofs.Lists.{exactly-only}
 use Rattle.graph.proofs.Recurrence.{pathCount-recurrence, pathCount-cong, recurrence-mod-only}
 use Rattle.graph.proofs.Counting.{pathCount-exact}
 use Rattle.graph.proofs.Bound.{paths-below}
-use Rattle.answers.specs.Table.{_gives_, Conditions, First}
+use Rattle.answer.specs.Table.{_gives_, Conditions, First}
 use Rattle.sheet_theory.specs.Layout.{Shape, rowAt, countAt, edgeAt}
 use Rattle.sheet_theory.specs.Conditions.{StrayRow}
 use Rattle.sheet_theory.specs.Valid.{Valid, validConditions}
 use Rattle.sheet_theory.specs.Internal.{successorsSum, RowHolds}
-use Rattle.answers.proofs.TableLaws.{first-past, first-rest}
+use Rattle.answer.proofs.TableLaws.{first-past, first-rest}
 use Rattle.sheet_theory.proofs.ShapeLaws.{shape-not, shape-passed, shape-rest}
 use Rattle.sheet_theory.proofs.LayoutLaws.{sheet-ext}
 

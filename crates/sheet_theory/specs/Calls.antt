@@ -2,9 +2,9 @@
 use mathlib.Core.List.{List, []}
 use Prim.Native.Nat.{ℕ}
 use lib.ListN.{length}
-use Rattle.answers.specs.declared.Answer.{Answer}
-use Rattle.answers.specs.Table.{Conditions, firstTrue}
-use Rattle.answers.specs.Answers.{decided, answered}
+use Rattle.answer.specs.declared.Answer.{Answer}
+use Rattle.answer.specs.Table.{Conditions, firstTrue}
+use Rattle.answer.specs.Answers.{decided, answered}
 use Rattle.sheet_theory.specs.Layout.{countAt, emptySheet}
 use Rattle.sheet_theory.specs.Conditions.{vertexConditions, vertexTests, sized, sizedTests}
 

@@ -9,7 +9,7 @@ use lib.Dec.{ltb, leb, eqb}
 use lib.ListN.{length}
 use Rattle.word.specs.Bit.{bit}
 use Rattle.sheet_theory.specs.Layout.{mostVertices, size, rowAt}
-use Rattle.answers.specs.Table.{_gives_, Conditions, Tests}
+use Rattle.answer.specs.Table.{_gives_, Conditions, Tests}
 
 -- 1: n is not 1 to 64
 abbrev pub BadVertices : ℕ → Type 0

@@ -4,7 +4,7 @@ use mathlib.Core.Path.{_≡_}
 use mathlib.Core.List.{List, []}
 use Prim.Native.Nat.{ℕ, _+_, _*_, _%_, _^_, _<_}
 use Rattle.sums.specs.Sum.{sum, delta}
-use Rattle.answers.specs.Table.{firstTrue}
+use Rattle.answer.specs.Table.{firstTrue}
 use Rattle.sheet_theory.specs.Layout.{rowAt, countAt, edgeAt}
 use Rattle.sheet_theory.specs.Conditions.{vertexTests, sizedTests}
 

@@ -3,7 +3,7 @@ use mathlib.Core.List.{List, _∷_}
 use Prim.Native.Nat.{ℕ, _<_}
 use Rattle.graph.specs.Graph.{Exactly, IsPath, Acyclic}
 use Rattle.sheet_theory.specs.Layout.{Shape, countAt, edgeAt}
-use Rattle.answers.specs.Table.{_gives_, Conditions}
+use Rattle.answer.specs.Table.{_gives_, Conditions}
 use Rattle.sheet_theory.specs.Conditions.{StrayRow, sized}
 
 -- s is a valid sheet of n vertices: no row has a bit at n or above, there is no cycle, and each count is the number of paths

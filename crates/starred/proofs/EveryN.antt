@@ -9,10 +9,10 @@ use Rattle.graph.specs.Graph.{Exactly, IsPath}
 use Rattle.graph.proofs.Lists.{exactly-only}
 use Rattle.graph.proofs.Counting.{exactly-self}
 use Rattle.graph.proofs.Bound.{bound, paths-below}
-use Rattle.answers.specs.declared.Answer.{Answer}
-use Rattle.answers.specs.Answers.{answer}
+use Rattle.answer.specs.declared.Answer.{Answer}
+use Rattle.answer.specs.Answers.{answer}
 use Rattle.sheet_theory.specs.Conditions.{BadVertices}
-use Rattle.answers.proofs.AnswerLaws.{answer-ext}
+use Rattle.answer.proofs.AnswerLaws.{answer-ext}
 use Rattle.sheet_theory.proofs.Refusals.{empty-table, empty-refused, path-count-table, path-count-refused}
 use Rattle.recount_theory.proofs.Refusals.{recount-table, recount-refused, validate-table, validate-refused}
 use Rattle.edit_theory.specs.Edit.{Edit}

@@ -16,12 +16,12 @@ use Rattle.graph.specs.Graph.{_isIn_, Distinct, Exactly, IsPath, Cycle, Acyclic
 use Rattle.graph.proofs.Lists.{exactly-only}
 use Rattle.graph.proofs.Walks.{rising-acyclic, path-cong, cycle-cong}
 use Rattle.graph.proofs.Counting.{walkList, walkList-distinct, path-listed-iff}
-use Rattle.answers.specs.Table.{_gives_, First, firstTrue, Reflects}
-use Rattle.answers.specs.Answers.{answer, decided}
+use Rattle.answer.specs.Table.{_gives_, First, firstTrue, Reflects}
+use Rattle.answer.specs.Answers.{answer, decided}
 use Rattle.sheet_theory.specs.Layout.{edgeAt}
 use Rattle.sheet_theory.specs.Calls.{pathCountAnswer}
-use Rattle.answers.proofs.TableLaws.{reflects-false, reflects-eq, first-true, first-rest, first-last, first-accepts}
-use Rattle.answers.proofs.AnswerLaws.{answer-ext}
+use Rattle.answer.proofs.TableLaws.{reflects-false, reflects-eq, first-true, first-rest, first-last, first-accepts}
+use Rattle.answer.proofs.AnswerLaws.{answer-ext}
 use Rattle.sheet_theory.proofs.Meaning.{path-count-exact}
 use Rattle.edit_theory.specs.Edit.{Edges, Edit, vertexOf, predecessorsOf, successorsOf, named, oneIf, marked}
 use Rattle.edit_theory.specs.Table.{SomeEdge, argued, effects}

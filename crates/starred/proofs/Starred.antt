@@ -15,10 +15,10 @@ use Rattle.graph.specs.Graph.{_isIn_, Exactly, IsPath}
 use Rattle.graph.specs.Uses.{Uses, oneEdge}
 use Rattle.graph.proofs.Lists.{when, each, exactly-only}
 use Rattle.graph.proofs.Counting.{walkList, exactly-self}
-use Rattle.answers.specs.Table.{firstTrue}
-use Rattle.answers.specs.Answers.{answer}
+use Rattle.answer.specs.Table.{firstTrue}
+use Rattle.answer.specs.Answers.{answer}
 use Rattle.sheet_theory.specs.Layout.{edgeAt, emptySheet}
-use Rattle.answers.proofs.AnswerLaws.{answer-ext}
+use Rattle.answer.proofs.AnswerLaws.{answer-ext}
 use Rattle.sheet_theory.proofs.Meaning.{empty-valid, empty-edge}
 use Rattle.edit_theory.specs.Edit.{one, at, insertEdge, insertEdgesAt}
 use Rattle.edit_theory.specs.Outcome.{some, someEdge, editAnswer, editAfter}

@@ -6,8 +6,8 @@ use mathlib.Core.List.{List}
 use Prim.Native.Nat.{ℕ, _-_, _^_, _≤_, _<_}
 use lib.ListN.{length}
 use Rattle.graph.specs.Graph.{Exactly, IsPath, Acyclic}
-use Rattle.answers.specs.declared.Answer.{Answer}
-use Rattle.answers.specs.Answers.{answer}
+use Rattle.answer.specs.declared.Answer.{Answer}
+use Rattle.answer.specs.Answers.{answer}
 use Rattle.sheet_theory.specs.Layout.{mostVertices}
 use Rattle.sheet_theory.specs.Conditions.{BadVertices}
 use Rattle.sheet_theory.specs.Calls.{emptyAnswer, emptyAfter, pathCountAnswer}

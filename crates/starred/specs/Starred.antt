@@ -4,7 +4,7 @@ use mathlib.Core.List.{List, [], _∷_}
 use Prim.Native.Nat.{ℕ, _^_}
 use lib.ListN.{length}
 use Rattle.text.specs.Text.{written}
-use Rattle.answers.specs.Answers.{answer}
+use Rattle.answer.specs.Answers.{answer}
 use Rattle.sheet_theory.specs.Calls.{pathCountAnswer}
 use Rattle.edit_theory.specs.Edit.{Edit, insertEdge, insertEdgesAt, deleteEdgesAt}
 use Rattle.edit_theory.specs.Outcome.{editAnswer, editAfter}

@@ -2,7 +2,7 @@
 use Prim.Native.Nat.{_-_, _≤_}
 use native.Mathlib.Omega.{arith}
 use lib.Dec.{eqb}
-use Rattle.answers.specs.Table.{Reflects}
+use Rattle.answer.specs.Table.{Reflects}
 use Rattle.count_rows.specs.Internal.{SameRow}
 use Rattle.count_rows.proofs.RowLaws.{same-none, same-more, same-done}
 use Rattle.count_rows.proofs.same_row.Statement.{statement}

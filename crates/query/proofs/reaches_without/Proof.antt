@@ -1,6 +1,6 @@
 -- `query::reaches_without` meets its contract: each way out is a law of AnswerLaws or WithoutLaws. Assumes nothing.
 use borrow.Author.Needs.{needs}
-use Rattle.answers.proofs.AnswerLaws.{answered-refused}
+use Rattle.answer.proofs.AnswerLaws.{answered-refused}
 use Rattle.query.proofs.CheckLaws.{without-ready}
 use Rattle.query_theory.proofs.WithoutLaws.{without-no, without-yes}
 use Rattle.query.proofs.reaches_without.Statement.{statement}

@@ -1,7 +1,7 @@
 -- `sheet::empty` meets its contract: each way out is a law of AnswerLaws. Assumes nothing.
 use borrow.Author.Needs.{needs}
 use Rattle.sheet_theory.proofs.ShapeLaws.{shape-of}
-use Rattle.answers.proofs.AnswerLaws.{answered-refused, answered-accepted, decided-refused, decided-accepted}
+use Rattle.answer.proofs.AnswerLaws.{answered-refused, answered-accepted, decided-refused, decided-accepted}
 use Rattle.sheet.proofs.empty.Statement.{statement}
 use Rattle.sheet.proofs.empty.Tie as tie
 

@@ -5,9 +5,9 @@ use Prim.Native.Nat.{ℕ}
 use lib.ListN.{length}
 use borrow.Author.Needs.{needs}
 use Rattle.sheet_theory.proofs.ShapeLaws.{vertices-ready}
-use Rattle.answers.proofs.AnswerLaws.{answered-refused, answered-accepted}
-use Rattle.answers.specs.declared.Answer.{Answer}
-use Rattle.answers.specs.Answers.{answer}
+use Rattle.answer.proofs.AnswerLaws.{answered-refused, answered-accepted}
+use Rattle.answer.specs.declared.Answer.{Answer}
+use Rattle.answer.specs.Answers.{answer}
 use Rattle.sheet_theory.specs.Layout.{countAt}
 use Rattle.sheet_theory.specs.Calls.{pathCountAnswer}
 use Rattle.sheet_theory.specs.Internal.{verticesNumber}

@@ -5,7 +5,7 @@ use native.Mathlib.Omega.{arith}
 use borrow.Author.Needs.{needs}
 use borrow.Author.Tests.{eqb-true, eqb-false}
 use Rattle.sheet_theory.specs.Layout.{edgeAt}
-use Rattle.answers.proofs.TableLaws.{reflects-false}
+use Rattle.answer.proofs.TableLaws.{reflects-false}
 use Rattle.word.proofs.CountLaws.{lowest-cleared-lt}
 use Rattle.edit_theory.specs.Edit.{oneIf}
 use Rattle.edit.proofs.SearchLaws.{Searching, searching-start, searching-below, searching-found, searching-more, searching-done}

@@ -1,7 +1,7 @@
 -- `edit::checks::some_meets` meets its contract: a search over the vertices of the mask `starts`. Assumes nothing.
 use native.Mathlib.Omega.{arith}
 use borrow.Author.Tests.{eqb-true, eqb-false}
-use Rattle.answers.proofs.TableLaws.{reflects-false}
+use Rattle.answer.proofs.TableLaws.{reflects-false}
 use Rattle.word.proofs.CountLaws.{lowest-cleared-lt}
 use Rattle.edit.specs.Internal.{Meets}
 use Rattle.edit.proofs.SearchLaws.{Searching, searching-start, searching-below, searching-found, searching-more, searching-done}

@@ -1,5 +1,5 @@
 -- `sheet::checks::first` meets its contract: each way out is a law of AnswerLaws. Assumes nothing.
-use Rattle.answers.proofs.AnswerLaws.{first-refuses, first-then}
+use Rattle.answer.proofs.AnswerLaws.{first-refuses, first-then}
 use Rattle.sheet.proofs.checks.first.Statement.{statement}
 use Rattle.sheet.proofs.checks.first.Tie as tie
 
