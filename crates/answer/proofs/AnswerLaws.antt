@@ -2,7 +2,9 @@
 use mathlib.Core.Path.{_≡_, refl, sym, ap, ap₂, _∙_}
 use Prim.Native.Nat.{ℕ, zero, suc}
 use Rattle.answer.specs.declared.Answer.{Answer}
+use Rattle.answer.specs.Table.{Conditions, First}
 use Rattle.answer.specs.Answers.{answer, decided, answered}
+use Rattle.answer.proofs.TableLaws.{first-only}
 
 pub decided-old : {A : Type 0} (k : ℕ) (new old : A) → (k ≡ 0 → ⊥) → decided k new old ≡ old
 decided-old zero new old h = absurd (h refl)
@@ -37,3 +39,14 @@ first-refuses k j d = sym (decided-old k j k d)
 
 pub first-then : (k j : ℕ) → k ≡ 0 → j ≡ decided k j k
 first-then k j z = rw z refl
+
+-- ---- the number k that the checks gave, and that of the definition, both of the first condition that holds
+
+module _ (cs : Conditions) (k m : ℕ) (f : First cs k) (g : First cs m) where
+  -- what is refused
+  pub refused-as : {A : Type 0} (new old : A) (v : ℕ) (r : Answer) → (k ≡ 0 → ⊥) → r ≡ answer k 0 0 → (r ≡ answered m v) × (old ≡ decided m new old)
+  refused-as new old v r d er = let e = first-only cs k m f g in (answered-refused k m e v r d er, decided-refused k m e new old d)
+
+  -- what is accepted
+  pub accepted-as : {A : Type 0} (new old t : A) (v : ℕ) (r : Answer) → k ≡ 0 → r ≡ answer 0 0 v → t ≡ new → (r ≡ answered m v) × (t ≡ decided m new old)
+  accepted-as new old t v r z er et = let e = first-only cs k m f g in (answered-accepted k m e v r z er, decided-accepted k m e new old t z et)

@@ -1,2 +1,3 @@
 pub mod TableLaws
 pub mod AnswerLaws
+pub mod ByNumber
