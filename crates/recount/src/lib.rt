@@ -3,6 +3,7 @@
 ghost use mathlib.Core.Path.{_≡_};
 ghost use Rattle.answer.specs.Table.{Reflects};
 ghost use Rattle.sheet_theory.specs.Layout.{Shape};
+ghost use Rattle.sheet_theory.specs.Lent.{lent};
 ghost use Rattle.sheet_theory.specs.Valid.{Valid};
 ghost use Rattle.sheet_theory.specs.Internal.{RowsBelow};
 ghost use Rattle.recount_theory.specs.Calls.{Recount, Validate};
@@ -25,15 +26,11 @@ fn fill_counts(n: usize, sheet: &mut [u64], order: &[usize; Sheet::VERTICES])
     count_blocks::fill_blocks(n, sheet, order);
 }
 
-// The counts worked out afresh from the rows (document 01: the survey). Refused by 1, 2, 4, 8, before a word is written. The
-// value is the number of set bits in all rows.
-pub fn recount(n: usize, sheet: &mut [u64]) -> Answer
-    ensures recounted { λ r. ⌜ Recount n (now (sheet .entry)) r (now (sheet .exit)) ⌝ }
+// Internal: the counts of a sheet of the right shape, worked out afresh from the rows. Refused by 4, 8, before a word is written.
+pub fn recount_core(n: usize, sheet: &mut [u64]) -> Answer
+    requires { ⌜ Shape n (now sheet) ⌝ }
+    ensures { λ r. ⌜ Recount n (lent (now (sheet .entry))) r (lent (now (sheet .exit))) ⌝ }
 {
-    let number = sheet::checks::shape_number(n, sheet.len());
-    if number != 0 {
-        return Answer::refused(number);
-    }
     if sheet::checks::has_stray_row(n, sheet) {
         return Answer::refused(Refusal::STRAY_BIT);
     }
@@ -45,11 +42,23 @@ pub fn recount(n: usize, sheet: &mut [u64]) -> Answer
     Answer::accepted(sheet::rows::count_set_bits(n, sheet))
 }
 
+// The counts worked out afresh from the rows (document 01: the survey). Refused by 1, 2, 4, 8, before a word is written. The
+// value is the number of set bits in all rows.
+pub fn recount(n: usize, sheet: &mut [u64]) -> Answer
+    ensures recounted { λ r. ⌜ Recount n (lent (now (sheet .entry))) r (lent (now (sheet .exit))) ⌝ }
+{
+    let number = sheet::checks::altering_number(n, sheet);
+    if number != 0 {
+        return Answer::refused(number);
+    }
+    recount_core(n, sheet)
+}
+
 // Whether a sheet of the right shape is valid. Where there is no cycle, the counts are the numbers of paths exactly
 // if they satisfy the recurrence.
 fn is_valid(n: usize, sheet: &[u64]) -> bool
     requires { ⌜ Shape n (now sheet) ⌝ }
-    ensures { λ r. ⌜ Reflects r (Valid n (now (sheet .entry))) ⌝ }
+    ensures { λ r. ⌜ Reflects r (Valid n (lent (now (sheet .entry)))) ⌝ }
 {
     if sheet::checks::has_stray_row(n, sheet) {
         return false;
@@ -66,9 +75,9 @@ fn is_valid(n: usize, sheet: &[u64]) -> bool
 
 // Whether the sheet is valid, whoever wrote it (document 01: the test of a stored sheet). Refused by 1, 2. The value is 1 or 0.
 pub fn validate(n: usize, sheet: &[u64]) -> Answer
-    ensures tested { λ r. ⌜ Validate n (now (sheet .entry)) r ⌝ }
+    ensures tested { λ r. ⌜ Validate n (lent (now (sheet .entry))) r ⌝ }
 {
-    let number = sheet::checks::shape_number(n, sheet.len());
+    let number = sheet::checks::shape_number(n, sheet);
     if number != 0 {
         return Answer::refused(number);
     }
@@ -80,9 +89,9 @@ pub fn validate(n: usize, sheet: &[u64]) -> Answer
 
 // Internal: the number by which a sheet that has to be valid is refused: 1, 2, 9; or 0.
 pub fn sheet_number(n: usize, sheet: &[u64]) -> u64
-    ensures { λ r. ⌜ SheetNumber n (now (sheet .entry)) r ⌝ }
+    ensures { λ r. ⌜ SheetNumber n (lent (now (sheet .entry))) r ⌝ }
 {
-    let number = sheet::checks::shape_number(n, sheet.len());
+    let number = sheet::checks::shape_number(n, sheet);
     if number != 0 {
         return number;
     }

@@ -9,6 +9,7 @@ use lib.Dec.{ltb, leb, eqb}
 use lib.ListN.{length}
 use Rattle.word.specs.Bit.{bit}
 use Rattle.sheet_theory.specs.Layout.{mostVertices, size, rowAt}
+use Rattle.sheet_theory.specs.Lent.{Lent}
 use Rattle.answer.specs.Table.{_gives_, Conditions, Tests}
 
 -- 1: n is not 1 to 64
@@ -16,8 +17,8 @@ abbrev pub BadVertices : ℕ → Type 0
 BadVertices n = (n < 1) ⊎ (mostVertices < n)
 
 -- 2: the sheet isn't n + n × n words
-abbrev pub BadLength : ℕ → List ℕ → Type 0
-BadLength n s = ¬ (length s ≡ size n)
+unfoldable pub BadLength : ℕ → Lent → Type 0
+BadLength n s = ¬ (length (s .words) ≡ size n)
 
 -- 3: a vertex is n or more
 abbrev pub NoVertex : ℕ → ℕ → Type 0
@@ -38,10 +39,16 @@ vertexConditions n i j l = (NoVertex n i ⊎ NoVertex n j) gives 3 ∷ l
 abbrev pub vertexTests : ℕ → ℕ → ℕ → Tests → Tests
 vertexTests n i j l = (leb n i || leb n j) gives 3 ∷ l
 
--- what every call looks for first, and then the conditions l
-abbrev pub sized : ℕ → List ℕ → Conditions → Conditions
+-- what every call that reads looks for first, and then the conditions l
+abbrev pub sized : ℕ → Lent → Conditions → Conditions
 sized n s l = BadVertices n gives 1 ∷ BadLength n s gives 2 ∷ l
 
--- the same of a sheet of len words
-abbrev pub sizedTests : ℕ → ℕ → Tests → Tests
-sizedTests n len l = (ltb n 1 || ltb mostVertices n) gives 1 ∷ not (eqb len (size n)) gives 2 ∷ l
+abbrev pub sizedTests : ℕ → Lent → Tests → Tests
+sizedTests n s l = (ltb n 1 || ltb mostVertices n) gives 1 ∷ not (eqb (length (s .words)) (size n)) gives 2 ∷ l
+
+-- what every call that alters a sheet looks for first: the same
+abbrev pub altering : ℕ → Lent → Conditions → Conditions
+altering = sized
+
+abbrev pub alteringTests : ℕ → Lent → Tests → Tests
+alteringTests = sizedTests

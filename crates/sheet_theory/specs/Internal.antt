@@ -1,24 +1,10 @@
 -- What the laws of this crate and the internal functions of others share. No public call's contract cites these. Definitions only.
 -- Assumes nothing.
 use mathlib.Core.Path.{_≡_}
-use mathlib.Core.List.{List, []}
+use mathlib.Core.List.{List}
 use Prim.Native.Nat.{ℕ, _+_, _*_, _%_, _^_, _<_}
 use Rattle.sums.specs.Sum.{sum, delta}
-use Rattle.answer.specs.Table.{firstTrue}
 use Rattle.sheet_theory.specs.Layout.{rowAt, countAt, edgeAt}
-use Rattle.sheet_theory.specs.Conditions.{vertexTests, sizedTests}
-
--- the number that the checks of the shape give: 1, 2 or 0, of n vertices and len words
-abbrev pub shapeNumber : ℕ → ℕ → ℕ
-shapeNumber n len = firstTrue (sizedTests n len [])
-
--- the number that two vertices give: 3 if there is no i or no j, else 0
-abbrev pub vertexNumber : ℕ → ℕ → ℕ → ℕ
-vertexNumber n i j = firstTrue (vertexTests n i j [])
-
--- that of the shape, and then that of two vertices
-abbrev pub verticesNumber : ℕ → ℕ → ℕ → ℕ → ℕ
-verticesNumber n len i j = firstTrue (sizedTests n len (vertexTests n i j []))
 
 -- the count from i to j that the recurrence gives, from those of the successors of i, modulo 2 ^ 64
 unfoldable pub successorsSum : ℕ → List ℕ → ℕ → ℕ → ℕ

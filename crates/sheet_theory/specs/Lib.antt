@@ -1,4 +1,5 @@
 pub mod Layout
+pub mod Lent
 pub mod Conditions
 pub mod Valid
 pub mod Calls

@@ -1,34 +1,35 @@
--- `sheet::path_count` meets its contract. Assumes nothing.
-use mathlib.Core.Path.{_≡_, ap, _∙_}
-use mathlib.Core.List.{List}
+-- `sheet::path_count` meets its contract: each way out is a law of AnswerLaws. Assumes nothing.
+use mathlib.Core.Path.{_≡_, refl, ap, _∙_}
 use Prim.Native.Nat.{ℕ}
-use lib.ListN.{length}
 use borrow.Author.Needs.{needs}
-use Rattle.sheet_theory.proofs.ShapeLaws.{vertices-ready}
-use Rattle.answer.proofs.AnswerLaws.{answered-refused, answered-accepted}
 use Rattle.answer.specs.declared.Answer.{Answer}
+use Rattle.answer.specs.Table.{First}
 use Rattle.answer.specs.Answers.{answer}
+use Rattle.answer.proofs.AnswerLaws.{refused-as, accepted-as}
 use Rattle.sheet_theory.specs.Layout.{countAt}
-use Rattle.sheet_theory.specs.Calls.{pathCountAnswer}
-use Rattle.sheet_theory.specs.Internal.{verticesNumber}
+use Rattle.sheet_theory.specs.Lent.{Lent}
+use Rattle.sheet_theory.specs.Calls.{pathCountConditions, pathCountAnswer}
+use Rattle.sheet_theory.proofs.ShapeLaws.{vertices-ready}
+use Rattle.sheet_theory.proofs.Refusals.{path-count-first}
 use Rattle.sheet.proofs.path_count.Statement.{statement}
 use Rattle.sheet.proofs.path_count.Tie as tie
 
--- where it is accepted: k is what the checks gave
-accepted : (n : ℕ) (s : List ℕ) (i j k : ℕ) → k ≡ verticesNumber n (length s) i j → (x : ℕ) (r : Answer) → k ≡ 0 → x ≡ countAt n s i j → r ≡ answer 0 0 x
-    → r ≡ pathCountAnswer n s i j
-accepted n s i j k ek x r z ex er = answered-accepted k _ ek (countAt n s i j) r z (er ∙ ap (λ (y : ℕ). answer 0 0 y) ex)
+-- k is what the checks gave
+module _ (n : ℕ) (s : Lent) (i j k : ℕ) (f : First (pathCountConditions n s i j) k) (r : Answer) where
+  refused : (k ≡ 0 → ⊥) → r ≡ answer k 0 0 → r ≡ pathCountAnswer n s i j
+  refused d er = refused-as (pathCountConditions n s i j) k _ f (path-count-first n s i j) s s _ r d er .0
+
+  accepted : (x : ℕ) → k ≡ 0 → x ≡ countAt n (s .words) i j → r ≡ answer 0 0 x → r ≡ pathCountAnswer n s i j
+  accepted x z ex er = accepted-as (pathCountConditions n s i j) k _ f (path-count-first n s i j) s s s _ r z (er ∙ ap (answer 0 0) ex) refl .0
 
 returns : tie.Need-returns
-returns c = search answered-refused
+returns c = search (refused _ _ _ _ _ (c .before .before .vertices-number .ensures))
 
 returns-2 : tie.Need-returns-2
-returns-2 c = search accepted
+returns-2 c = search (accepted _ _ _ _ _ (c .before .before .before .vertices-number .ensures))
 
 count-at-requires : tie.Need-count-at-requires
-count-at-requires c κs =
-    let a = c .before .before .before .args in
-    vertices-ready (a .n) (a .sheet .now) (a .from) (a .to) _ (c .before .vertices-number .ensures) (c .if1 .left)
+count-at-requires c κs = vertices-ready _ _ _ _ _ (c .before .vertices-number .ensures) (c .if1 .left)
 
 pub path-count-spec : {M : Type 1} → statement M
 path-count-spec = tie.close (tie.spec (λ c κs. search needs) (λ c κs. search needs) returns count-at-requires (λ c κs. search needs) returns-2)
