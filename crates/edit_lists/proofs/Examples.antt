@@ -8,6 +8,7 @@ use Rattle.graph.specs.Update.{fromSum, toSum}
 use Rattle.answer.specs.Table.{firstTrue}
 use Rattle.answer.specs.Answers.{answer}
 use Rattle.sheet_theory.specs.Layout.{setBits, build, redoneWord, redone, emptySheet}
+use Rattle.sheet_theory.specs.Lent.{emptyLent}
 use Rattle.edit_theory.specs.Edit.{Edit, insertEdge, insertEdgesAt}
 use Rattle.edit_theory.specs.Outcome.{some, someEdge, closes, editedRow, editedBy, editedCount, edited}
 use Rattle.edit_lists.specs.Run.{answers, after}
@@ -15,11 +16,11 @@ use Rattle.edit_lists.specs.Run.{answers, after}
 pub edits : List Edit
 edits = insertEdgesAt 5 0 0 6 ∷ insertEdge 4 1 3 ∷ insertEdge 5 1 3 ∷ insertEdge 5 3 0 ∷ insertEdge 5 2 3 ∷ []
 
-pub answered-so : answers edits (emptySheet 5) ≡ answer 0 0 2 ∷ answer 2 0 0 ∷ answer 0 0 3 ∷ answer 8 0 0 ∷ answer 0 0 4 ∷ []
+pub answered-so : answers edits (emptyLent 5) ≡ answer 0 0 2 ∷ answer 2 0 0 ∷ answer 0 0 3 ∷ answer 8 0 0 ∷ answer 0 0 4 ∷ []
 unfolding edits answers emptySheet firstTrue some someEdge closes edited editedRow editedCount editedBy redone redoneWord build ofBits fromSum toSum sum delta setBits bitCount
 answered-so = refl
 
-pub left-so : after edits (emptySheet 5)
+pub left-so : after edits (emptyLent 5) .words
     ≡ 6 ∷ 8 ∷ 8 ∷ 0 ∷ 0
     ∷ 1 ∷ 1 ∷ 1 ∷ 2 ∷ 0
     ∷ 0 ∷ 1 ∷ 0 ∷ 1 ∷ 0

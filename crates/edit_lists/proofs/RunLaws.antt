@@ -2,16 +2,16 @@
 -- nothing.
 use mathlib.Core.Path.{_≡_, refl, sym, ap, ap₂, subst, _∙_}
 use mathlib.Core.List.{List, [], _∷_, _++_}
-use Prim.Native.Nat.{ℕ}
 use Rattle.answer.specs.declared.Answer.{Answer}
+use Rattle.sheet_theory.specs.Lent.{Lent}
 use Rattle.edit_theory.specs.Edit.{Edit}
 use Rattle.edit_theory.specs.Outcome.{editAnswer, editAfter}
-use Rattle.edit_theory.specs.Model.{Model}
+use Rattle.edit_theory.specs.Book.{Model}
 use Rattle.edit_theory.proofs.FreshLaws.{Modelled}
 use Rattle.edit_theory.proofs.StepLaws.{edit-step, step-only}
 use Rattle.edit_lists.specs.Run.{Run, done, then, answers, after}
 
-pub run-modelled : (es : List Edit) (m : Model) (s : List ℕ) → Modelled m s
+pub run-modelled : (es : List Edit) (m : Model) (s : Lent) → Modelled m s
     → (m′ : Model) × Run m es (answers es s) m′ × Modelled m′ (after es s) × (m′ .vertices ≡ m .vertices)
 unfolding answers after
 run-modelled [] m s h = (m, done, h, refl)
@@ -29,12 +29,12 @@ run-only (then {m₂ = c₁} {es = t} {rs = x₁} p r) (then {m₂ = c₂} {rs =
     (ap₂ _∷_ (u .0) (v .0), v .1)
 
 -- a list of two parts is the second on what the first has left
-pub after-append : (es fs : List Edit) (s : List ℕ) → after (es ++ fs) s ≡ after fs (after es s)
+pub after-append : (es fs : List Edit) (s : Lent) → after (es ++ fs) s ≡ after fs (after es s)
 unfolding after
 after-append [] fs s = refl
 after-append (e ∷ es) fs s = after-append es fs (editAfter e s)
 
-pub answers-append : (es fs : List Edit) (s : List ℕ) → answers (es ++ fs) s ≡ answers es s ++ answers fs (after es s)
+pub answers-append : (es fs : List Edit) (s : Lent) → answers (es ++ fs) s ≡ answers es s ++ answers fs (after es s)
 unfolding answers after
 answers-append [] fs s = refl
 answers-append (e ∷ es) fs s = ap (λ l. editAnswer e s ∷ l) (answers-append es fs (editAfter e s))

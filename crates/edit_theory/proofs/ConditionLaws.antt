@@ -1,22 +1,25 @@
 -- The tests of an edit find the first of the table's conditions that holds, whatever stands for the length, the edges and the cycle, if
 -- each test decides its condition once those before it do not hold; and what is known where none holds. Assumes nothing.
-use mathlib.Core.Path.{_≡_, refl, sym, _∙_}
+use mathlib.Core.Path.{_≡_, refl}
 use mathlib.Core.Logic.{_⊎_, inl, inr}
 use mathlib.Core.Bool.{Bool, true, false, not}
-use mathlib.Core.List.{List, []}
+use mathlib.Core.List.{[]}
 use Prim.Native.Nat.{ℕ, _^_, _≤_, _<_}
 use native.Mathlib.Nat.{lt-of-not-le}
 use lib.Dec.{leb, eqb}
 use lib.ListN.{length}
 use lib.Pow.{pow-lt, pow-pos}
 use Rattle.answer.specs.Table.{Conditions, First, Tests, Reflects}
-use Rattle.sheet_theory.specs.Layout.{size, edgeAt}
+use Rattle.sheet_theory.specs.Layout.{size}
+use Rattle.sheet_theory.specs.Lent.{Lent, multAt}
 use Rattle.sheet_theory.specs.Conditions.{BadVertices, StrayBit}
-use Rattle.answer.proofs.TableLaws.{Agree, reflects-iff, reflects-or, reflects-lt, reflects-le, reflects-eq, first-past, first-rest}
+use Rattle.answer.proofs.TableLaws.{Agree, reflects-iff, reflects-or, reflects-lt, reflects-le, reflects-eq, first-past, first-rest, first-more}
+use Rattle.answer.proofs.ByNumber.{first-not}
 use Rattle.sheet_theory.proofs.StrayLaws.{stray-iff, stray-not}
 use Rattle.edit_theory.specs.Edit.{Edges, one, at, Edit, vertexOf, predecessorsOf, successorsOf}
-use Rattle.edit_theory.specs.Table.{SomeEdge, argued, effects, table}
-use Rattle.edit_theory.specs.Outcome.{arguedTests, someEdge, closes, effectTests, editTests}
+use Rattle.edit_theory.specs.Book.{Model, opened}
+use Rattle.edit_theory.specs.Table.{argued, mostParallel, clashes, Grounds, ending, effects, table}
+use Rattle.edit_theory.specs.Outcome.{arguedTests, clashTests, endingTests, closes, editTests}
 use Rattle.edit_theory.proofs.TestLaws.{someEdge-reflects}
 
 reflects-stray : (n x : ℕ) → Reflects (leb (2 ^ n) x) (StrayBit n x)
@@ -48,6 +51,14 @@ argued-agree n (at v a b) cs ts h = (
   λ d. (reflects-or (reflects-stray n a) (reflects-stray n b), refl, λ c. h (argued-at n v a b d c)),
 )
 
+pub argued-refused : (n : ℕ) (g : Edges) (cs : Conditions) (k : ℕ) → First (argued n g []) k → (k ≡ 0 → ⊥) → First (argued n g cs) k
+argued-refused n (one u v) cs k f d = first-more (argued n (one u v) []) cs k f d
+argued-refused n (at v a b) cs k f d = first-more (argued n (at v a b) []) cs k f d
+
+pub argued-passed : (n : ℕ) (g : Edges) (cs : Conditions) (k : ℕ) → First (argued n g []) 0 → First cs k → First (argued n g cs) k
+argued-passed n (one u v) cs k f x = inr (first-past f .0, x)
+argued-passed n (at v a b) cs k f x = let p = first-past f in inr (p .0, inr (first-past (p .1) .0, x))
+
 pub argued-rest : (n : ℕ) (g : Edges) (cs : Conditions) (k : ℕ) → First (argued n g []) 0 → First (argued n g cs) k → First cs k
 argued-rest n (one u v) cs k f x = first-rest (first-past f .0) x
 argued-rest n (at v a b) cs k f x = let p = first-past f in first-rest (first-past (p .1) .0) (first-rest (p .0) x)
@@ -56,54 +67,64 @@ pub argued-past : (n : ℕ) (g : Edges) (cs : Conditions) → First (argued n g 
 argued-past n (one u v) cs f = let p = first-past f in (argued-one n u v (p .0), p .1)
 argued-past n (at v a b) cs f = let p = first-past f in let q = first-past (p .1) in (argued-at n v a b (p .0) (q .0), q .1)
 
--- ---- the edges
+-- ---- the edges: x has those that the tests look at, and m those that the conditions speak of
 
-module _ (n : ℕ) (s : List ℕ) (g : Edges) (w : ℕ → ℕ → ℕ) (Closed : Type 0) (same : (i j : ℕ) → i < n → j < n → edgeAt s i j ≡ w i j) where
-  edges-reflect : (x : ℕ) → Reflects (someEdge n (vertexOf g) (predecessorsOf g) (successorsOf g) (λ i j. eqb (edgeAt s i j) x)) (SomeEdge n g (λ i j. w i j ≡ x))
-  edges-reflect x =
-      someEdge-reflects n (vertexOf g) (predecessorsOf g) (successorsOf g) (λ i j. eqb (edgeAt s i j) x) (λ i j. w i j ≡ x)
-      (λ i j hi hj. reflects-iff (λ e. sym (same i j hi hj) ∙ e) (λ e. same i j hi hj ∙ e) (reflects-eq (edgeAt s i j) x))
+module _ (n most : ℕ) (g : Edges) (x m : Model) (same : (i j : ℕ) → i < n → j < n → x .edge i j ≡ m .edge i j) where
+  -- no edge clashes
+  abbrev Unclashed : Bool → Type 0
+  Unclashed inserts = First (clashes inserts n most g m []) 0
 
-  pub effects-agree : (inserts : Bool)
-      → (inserts ≡ true → ¬ (SomeEdge n g (λ i j. i ≡ j)) → ¬ (SomeEdge n g (λ i j. w i j ≡ 1))
-      → Reflects (closes n s (vertexOf g) (predecessorsOf g) (successorsOf g)) Closed)
-      → Agree (effects inserts n g w Closed) (effectTests n s (vertexOf g) (predecessorsOf g) (successorsOf g) inserts)
-  effects-agree true h = (
-    someEdge-reflects n (vertexOf g) (predecessorsOf g) (successorsOf g) eqb (λ i j. i ≡ j) (λ i j hi hj. reflects-eq i j),
+  pub clashes-agree : (inserts : Bool) (cs : Conditions) (ts : Tests) → (Unclashed inserts → Agree cs ts)
+      → Agree (clashes inserts n most g m cs) (clashTests inserts n most g x ts)
+  clashes-agree true cs ts h = (
+    someEdge-reflects n g eqb (λ i j. i ≡ j) (λ i j hi hj. reflects-eq i j),
     refl,
-    λ p. (edges-reflect 1, refl, λ q. (h refl p q, refl, λ r. tt)),
+    λ p. (
+      someEdge-reflects n g _ (λ i j. most ≤ m .edge i j) (λ i j hi hj. rw (same i j hi hj) (reflects-le most (m .edge i j))),
+      refl,
+      λ q. h (inr (p, inr (q, refl))),
+    ),
   )
-  effects-agree false h = (edges-reflect 0, refl, λ p. tt)
+  clashes-agree false cs ts h = (
+    someEdge-reflects n g _ (λ i j. m .edge i j ≡ 0) (λ i j hi hj. rw (same i j hi hj) (reflects-eq (m .edge i j) 0)),
+    refl,
+    λ p. h (inr (p, refl)),
+  )
+
+  pub effects-agree : (inserts : Bool) (grounds : Grounds) (t : Bool) → (inserts ≡ true → Unclashed true → Reflects t (grounds .closed))
+      → Agree (effects inserts n most g m grounds) (clashTests inserts n most g x (endingTests inserts t))
+  effects-agree true grounds t h = clashes-agree true (ending true grounds) (endingTests true t) (λ p. (h refl p, refl, λ d. tt))
+  effects-agree false grounds t h = clashes-agree false [] [] (λ p. tt)
 
 -- ---- THE TABLE
 
-module _ (e : Edit) (s : List ℕ) (Other : Type 0) (w : ℕ → ℕ → ℕ) (Closed : Type 0) where
-  pub table-agree : Reflects (not (eqb (length s) (size (e .vertices)))) Other
-      → (¬ Other → (i j : ℕ) → i < e .vertices → j < e .vertices → edgeAt s i j ≡ w i j)
-      → (¬ Other → Argued (e .vertices) (e .edges) → e .inserts ≡ true
-      → ¬ (SomeEdge (e .vertices) (e .edges) (λ i j. i ≡ j)) → ¬ (SomeEdge (e .vertices) (e .edges) (λ i j. w i j ≡ 1))
-      → Reflects (closes (e .vertices) s (vertexOf (e .edges)) (predecessorsOf (e .edges)) (successorsOf (e .edges))) Closed)
-      → Agree (table e Other w Closed) (editTests e s)
+module _ (e : Edit) (s : Lent) (m : Model) (grounds : Grounds) where
+  pub table-agree : Reflects (not (eqb (length (s .words)) (size (e .vertices)))) (grounds .other)
+      → (¬ (grounds .other) → (i j : ℕ) → i < e .vertices → j < e .vertices → multAt (e .vertices) s i j ≡ m .edge i j)
+      → (¬ (grounds .other) → Argued (e .vertices) (e .edges) → e .inserts ≡ true
+      → First (clashes true (e .vertices) mostParallel (e .edges) m []) 0
+      → Reflects (closes (e .vertices) (s .words) (vertexOf (e .edges)) (predecessorsOf (e .edges)) (successorsOf (e .edges))) (grounds .closed))
+      → Agree (table e mostParallel m grounds) (editTests e s)
   table-agree other same closed = (
     reflects-or (reflects-lt (e .vertices) 1) (reflects-lt 64 (e .vertices)),
     refl,
     λ p. (
       other,
       refl,
-      λ d. argued-agree (e .vertices) (e .edges) _ _ (λ a. effects-agree (e .vertices) s (e .edges) w Closed (same d) (e .inserts) (closed d a)),
+      λ d. argued-agree (e .vertices) (e .edges) _ _
+          (λ a. effects-agree (e .vertices) mostParallel (e .edges) (opened (e .vertices) s) m (same d) (e .inserts) grounds _ (closed d a)),
     ),
   )
 
   -- what is known of an edit that is not refused
   pub record Passed : Type 0 where
     pub vertices : ¬ (BadVertices (e .vertices))
-    pub same : ¬ Other
+    pub same : ¬ (grounds .other)
     pub argued : Argued (e .vertices) (e .edges)
-    pub effects : First (effects (e .inserts) (e .vertices) (e .edges) w Closed) 0
+    pub effects : First (effects (e .inserts) (e .vertices) mostParallel (e .edges) m grounds) 0
 
-  pub passed : First (table e Other w Closed) 0 → Passed
+  pub passed : First (table e mostParallel m grounds) 0 → Passed
   passed f =
-      let f₁ = first-past f in
-      let f₂ = first-past (f₁ .1) in
-      let f₃ = argued-past (e .vertices) (e .edges) _ (f₂ .1) in
-      record { vertices = f₁ .0; same = f₂ .0; argued = f₃ .0; effects = f₃ .1 }
+      let not = first-not (table e mostParallel m grounds) 0 f in
+      let rest = argued-past (e .vertices) (e .edges) _ (first-rest (not 2 refl) (first-rest (not 1 refl) f)) in
+      record { vertices = not 1 refl; same = not 2 refl; argued = rest .0; effects = rest .1 }

@@ -9,48 +9,47 @@ use native.Mathlib.Omega.{arith}
 use Rattle.graph.specs.Graph.{Cycle}
 use Rattle.answer.specs.Table.{_gives_, First}
 use Rattle.answer.specs.Answers.{answer}
-use Rattle.answer.proofs.TableLaws.{first-other, first-past}
+use Rattle.answer.proofs.TableLaws.{first-other}
+use Rattle.answer.proofs.ByNumber.{first-not}
 use Rattle.sheet_theory.specs.Conditions.{BadVertices}
 use Rattle.edit_theory.specs.Edit.{one, edgeEdit, insertEdge}
-use Rattle.edit_theory.specs.Table.{SomeEdge, effects}
-use Rattle.edit_theory.specs.Model.{Model, effect, edgeCount, modelConditions, MayInsert, Free}
+use Rattle.edit_theory.specs.Table.{SomeEdge, mostParallel, effects}
+use Rattle.edit_theory.specs.Book.{Model}
+use Rattle.edit_theory.specs.Model.{effect, edgeCount, modelGrounds, modelConditions, MayInsert, Free}
 use Rattle.edit_theory.proofs.NamedLaws.{some-one}
 
 module _ (m : Model) (u v : ℕ) where
   -- by a number above 3: the edit names two vertices, and is refused for what it does
   pub edge-effects : (inserts : Bool) (k : ℕ) → 3 < k → First (modelConditions m (edgeEdit inserts (m .vertices) u v)) k
       → (u < m .vertices) × (v < m .vertices)
-      × First (effects inserts (m .vertices) (one u v) (m .edge) (Cycle (m .vertices) (effect m (edgeEdit inserts (m .vertices) u v) .edge))) k
+      × First (effects inserts (m .vertices) mostParallel (one u v) m (modelGrounds m (edgeEdit inserts (m .vertices) u v))) k
   edge-effects inserts k h f =
       let a = first-other (λ e. omega (arith, e)) (first-other (λ e. omega (arith, e)) (first-other (λ e. omega (arith, e)) f .1) .1) in
       (lt-of-not-le (λ l. a .0 (inl l)), lt-of-not-le (λ l. a .0 (inr l)), a .1)
 
-  -- an insertion of one edge, between two vertices and not there yet, is refused by 8 or not at all
-  pub insert-first : ¬ (BadVertices (m .vertices)) → u < m .vertices → v < m .vertices → ¬ (u ≡ v) → ¬ (m .edge u v ≡ 1)
+  -- an insertion of one edge, between two vertices and fewer than the most there, is refused by 8 or not at all
+  pub insert-first : ¬ (BadVertices (m .vertices)) → u < m .vertices → v < m .vertices → ¬ (u ≡ v) → ¬ (mostParallel ≤ m .edge u v)
       → (k : ℕ) → First (Cycle (m .vertices) (effect m (insertEdge (m .vertices) u v) .edge) gives 8 ∷ []) k
       → First (modelConditions m (insertEdge (m .vertices) u v)) k
   insert-first few hu hv apart new k f =
       let within : ¬ ((m .vertices ≤ u) ⊎ (m .vertices ≤ v)) = λ o. elim o [ inl l ↦ omega (arith, hu) | inr l ↦ omega (arith, hv) ] in
       let it : (P : ℕ → ℕ → Type 0) → SomeEdge (m .vertices) (one u v) P → P u v = λ P. some-one (m .vertices) u v P hu hv .0 in
-      inr (few, inr (λ d. d refl, inr (within, inr (λ o. apart (it (λ i j. i ≡ j) o), inr (λ o. new (it (λ i j. m .edge i j ≡ 1) o), f)))))
+      inr (few, inr (λ d. d refl, inr (within, inr (λ o. apart (it (λ i j. i ≡ j) o), inr (λ o. new (it (λ i j. mostParallel ≤ m .edge i j) o), f)))))
 
   -- ---- when it may be inserted
 
   pub may-free : MayInsert m u v → Free m u v
   may-free h =
       let f : First (modelConditions m (insertEdge (m .vertices) u v)) 0 = subst (First (modelConditions m (insertEdge (m .vertices) u v))) (h .accepted) (h .step .number) in
-      let a = first-past (first-past f .1) in
-      let b = first-past (a .1) in
-      let c = first-past (b .1) in
-      let d = first-past (c .1) in
-      let hu = lt-of-not-le (λ l. b .0 (inl l)) in
-      let hv = lt-of-not-le (λ l. b .0 (inr l)) in
+      let not = first-not (modelConditions m (insertEdge (m .vertices) u v)) 0 f in
+      let hu = lt-of-not-le (λ l. not 3 refl (inl l)) in
+      let hv = lt-of-not-le (λ l. not 3 refl (inr l)) in
       record {
         from = hu;
         to = hv;
-        apart = λ e. c .0 (some-one (m .vertices) u v (λ i j. i ≡ j) hu hv .1 e);
-        new = λ e. d .0 (some-one (m .vertices) u v (λ i j. m .edge i j ≡ 1) hu hv .1 e);
-        acyclic = first-past (d .1) .0;
+        apart = λ e. not 5 refl (some-one (m .vertices) u v (λ i j. i ≡ j) hu hv .1 e);
+        new = λ e. not 6 refl (some-one (m .vertices) u v (λ i j. mostParallel ≤ m .edge i j) hu hv .1 e);
+        acyclic = not 8 refl;
       }
 
   pub free-may : ¬ (BadVertices (m .vertices)) → Free m u v → MayInsert m u v

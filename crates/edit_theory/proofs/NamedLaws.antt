@@ -3,16 +3,17 @@
 use mathlib.Core.Path.{_≡_, refl, sym, ap, subst, _∙_}
 use mathlib.Core.Logic.{_⊎_, inl, inr, _↔_}
 use mathlib.Core.Bool.{Bool, true, false, false≢true}
-use Prim.Native.Nat.{ℕ, _+_, _*_, _^_, _≤_, _<_}
+use Prim.Native.Nat.{ℕ, zero, suc, _+_, _*_, _^_, _≤_, _<_}
 use native.Mathlib.Nat.{zero-mul, mul-zero, mul-comm}
 use native.Mathlib.Decide.{ℕ-discrete}
 use native.Mathlib.Omega.{arith}
+use lib.Dec.{ltb}
 use Rattle.sums.specs.Sum.{delta}
 use Rattle.sums.proofs.SumLaws.{delta-refl, delta-diff}
 use Rattle.word.specs.Bit.{bit}
 use Rattle.word.proofs.BitLaws.{bit-cases, bit-zero, bit-above-zero}
 use Rattle.word.proofs.MaskLaws.{bit-pow}
-use Rattle.edit_theory.specs.Edit.{one, at, namedAt, named, oneIf, marked}
+use Rattle.edit_theory.specs.Edit.{one, at, namedAt, named, oneIf, marked, changed}
 use Rattle.edit_theory.specs.Table.{SomeEdge}
 use Rattle.edit_theory.proofs.TestLaws.{named-of, named-into, named-out}
 
@@ -86,12 +87,22 @@ marked-le true true x h = omega arith
 marked-le false true x h = omega arith
 marked-le inserts false x h = h
 
--- an insertion adds the edges that it names, where none of them is there
-pub marked-inserts : (t : Bool) (x : ℕ) → (t ≡ true → x ≡ 0) → marked true t x ≡ x + oneIf t
+pub changed-other : (inserts : Bool) (x : ℕ) → changed inserts false x ≡ x
+changed-other true x = omega arith
+changed-other false x = omega arith
+
+-- what there is at most once is there or not
+pub oneIf-positive : (x : ℕ) → x ≤ 1 → oneIf (ltb 0 x) ≡ x
+oneIf-positive zero h = refl
+oneIf-positive (suc zero) h = refl
+oneIf-positive (suc (suc x)) h = absurd (omega arith)
+
+-- an insertion sets the bits of one edge more, where none of those named is there
+pub marked-inserts : (t : Bool) (x : ℕ) → (t ≡ true → x ≡ 0) → marked true t x ≡ changed true t x
 marked-inserts true x h = omega (arith, h refl)
 marked-inserts false x h = omega arith
 
--- a deletion takes them away, where all of them are there
-pub marked-deletes : (t : Bool) (x : ℕ) → (t ≡ true → x ≡ 1) → x ≡ marked false t x + oneIf t
-marked-deletes true x h = omega (arith, h refl)
-marked-deletes false x h = omega arith
+-- a deletion clears those of one less, where all of those named are there
+pub marked-deletes : (t : Bool) (x : ℕ) → (t ≡ true → x ≡ 1) → (marked false t x ≡ changed false t x) × (x ≡ changed false t x + oneIf t)
+marked-deletes true x h = let e = h refl in (omega arith, omega arith)
+marked-deletes false x h = (omega arith, omega arith)

@@ -2,8 +2,8 @@
 use mathlib.Core.Path.{_≡_, refl, sym, ap, subst, _∙_}
 use mathlib.Core.Logic.{inl, inr, _↔_}
 use mathlib.Core.Bool.{Bool, true, false}
-use mathlib.Core.List.{List, []}
-use Prim.Native.Nat.{ℕ, _<_}
+use mathlib.Core.List.{[]}
+use Prim.Native.Nat.{ℕ, _≤_, _<_}
 use native.Mathlib.Omega.{arith}
 use Rattle.graph.specs.Graph.{Cycle}
 use Rattle.graph.proofs.Walks.{paths-cong}
@@ -11,21 +11,23 @@ use Rattle.graph.proofs.Using.{paths-using}
 use Rattle.answer.specs.declared.Answer.{Answer}
 use Rattle.answer.specs.Table.{First}
 use Rattle.answer.specs.Answers.{decided}
-use Rattle.sheet_theory.specs.Layout.{edgeAt}
+use Rattle.sheet_theory.specs.Lent.{Lent, lent, multAt}
 use Rattle.sheet_theory.specs.Conditions.{BadVertices}
 use Rattle.sheet_theory.specs.Valid.{Valid}
-use Rattle.answer.proofs.TableLaws.{first-past, first-rest, first-last, first-accepts}
+use Rattle.answer.proofs.TableLaws.{first-rest, first-last, first-accepts}
+use Rattle.answer.proofs.ByNumber.{first-not}
 use Rattle.sheet_theory.proofs.ValidLaws.{edge-le}
-use Rattle.edit_theory.specs.Edit.{Edges, Edit, insertEdge, named, marked}
-use Rattle.edit_theory.specs.Table.{SomeEdge, argued, effects}
+use Rattle.edit_theory.specs.Edit.{Edges, Edit, insertEdge, named, changed}
+use Rattle.edit_theory.specs.Table.{SomeEdge, argued, mostParallel, Grounds, effects}
 use Rattle.edit_theory.specs.Outcome.{editWords, editAnswer, editAfter}
-use Rattle.edit_theory.specs.Model.{Model, opened, effect, modelConditions, Step, MayInsert, Fresh}
+use Rattle.edit_theory.specs.Book.{Model, opened}
+use Rattle.edit_theory.specs.Model.{effect, modelGrounds, modelConditions, Step, MayInsert, Fresh}
 use Rattle.edit_theory.specs.Change.{Changed}
 use Rattle.edit_theory.proofs.FreshLaws.{modelled-valid, valid-modelled}
 use Rattle.edit_theory.proofs.ConditionLaws.{argued-rest, passed}
 use Rattle.edit_theory.proofs.StepLaws.{number-first, accepted-modelled, edit-step, step-only}
 
-module _ (n : ℕ) (s : List ℕ) (valid : Valid n s) where
+module _ (n : ℕ) (s : Lent) (valid : Valid n s) where
   -- THE MODEL: on a valid sheet the answer is that of the model's step, and the sheet afterwards is the one worked out afresh from the
   -- model afterwards, and valid
   pub edit-exact : (e : Edit) → (m : Model) × Step (opened n s) e (editAnswer e s) m × Fresh m (editAfter e s) × Valid n (editAfter e s)
@@ -37,7 +39,7 @@ module _ (n : ℕ) (s : List ℕ) (valid : Valid n s) where
   -- is looked for among the edges and all those to insert together
   pub edit-effects : (inserts : Bool) (g : Edges) → First (argued n g []) 0 →
       let e : Edit = record { inserts = inserts; vertices = n; edges = g } in
-      First (effects inserts n g (edgeAt s) (Cycle n (effect (opened n s) e .edge))) (editAnswer e s .number)
+      First (effects inserts n mostParallel g (opened n s) (modelGrounds (opened n s) e)) (editAnswer e s .number)
   edit-effects inserts g ok =
       let f = number-first (opened n s) s (valid-modelled valid) (record { inserts = inserts; vertices = n; edges = g }) in
       let few : ¬ (BadVertices n) = λ c. elim c [ inl l ↦ omega (arith, valid .shape .low) | inr l ↦ omega (arith, valid .shape .high) ] in
@@ -45,7 +47,7 @@ module _ (n : ℕ) (s : List ℕ) (valid : Valid n s) where
 
   -- CYCLES: once the earlier conditions do not hold, an insertion is refused by 8 exactly if there is a cycle among the edges and all those
   -- to insert together, and else it is accepted
-  pub edit-cycle-iff : (g : Edges) → First (argued n g []) 0 → ¬ (SomeEdge n g (λ i j. i ≡ j)) → ¬ (SomeEdge n g (λ i j. edgeAt s i j ≡ 1)) →
+  pub edit-cycle-iff : (g : Edges) → First (argued n g []) 0 → ¬ (SomeEdge n g (λ i j. i ≡ j)) → ¬ (SomeEdge n g (λ i j. mostParallel ≤ multAt n s i j)) →
       let e : Edit = record { inserts = true; vertices = n; edges = g } in
       let Closed : Type 0 = Cycle n (effect (opened n s) e .edge) in
       ((editAnswer e s .number ≡ 8) ↔ Closed) × ((editAnswer e s .number ≡ 0) ↔ (¬ Closed))
@@ -62,37 +64,35 @@ module _ (n : ℕ) (s : List ℕ) (valid : Valid n s) where
 
 -- ---- the paths that use one of the edges
 
-module _ (n : ℕ) (s : List ℕ) (valid : Valid n s) (g : Edges) (t : List ℕ) (i j : ℕ) (hi : i < n) (hj : j < n) where
+module _ (n : ℕ) (s : Lent) (valid : Valid n s) (g : Edges) (t : Lent) (i j : ℕ) (hi : i < n) (hj : j < n) where
   -- the edges afterwards
   abbrev after : Bool → ℕ → ℕ → ℕ
-  after inserts x y = marked inserts (named g x y) (edgeAt s x y)
+  after inserts x y = changed inserts (named g x y) (multAt n s x y)
 
-  changed : (inserts : Bool) → First (effects inserts n g (edgeAt s) (Cycle n (after inserts))) 0 → Fresh (record { vertices = n; edge = after inserts }) t
-      → Changed inserts n s g t i j
-  changed true f fresh =
-      paths-using n (edgeAt s) (edgeAt t) (named g)
-      (λ x y hx hy q.
-      let d : edgeAt s x y ≡ 1 → ⊥ = λ z. first-past (first-past f .1) .0 (x, hx, y, hy, q, z) in
-      omega (arith, edge-le s x y))
-      (λ x y hx hy q. sym (fresh .bits x y hx hy ∙ ap (λ b. marked true b (edgeAt s x y)) q))
+  counts-change : (inserts : Bool) (grounds : Grounds) → First (effects inserts n mostParallel g (opened n s) grounds) 0
+      → Fresh (record { vertices = n; edge = after inserts }) t → Changed inserts n s g t i j
+  counts-change true grounds f fresh =
+      paths-using n (multAt n s) (multAt n t) (named g)
+      (λ x y hx hy q. let d : 1 ≤ multAt n s x y → ⊥ = λ l. first-not (effects true n mostParallel g (opened n s) grounds) 0 f 6 refl (x, hx, y, hy, q, l) in omega arith)
+      (λ x y hx hy q. omega (arith, fresh .bits x y hx hy ∙ ap (λ b. changed true b (multAt n s x y)) q))
       i j _ _ (valid .counts i j hi hj)
-      (paths-cong n (after true) (edgeAt t) (λ x y hx hy. sym (fresh .bits x y hx hy)) i j _ (fresh .counts i j hi hj))
-  changed false f fresh =
-      paths-using n (after false) (edgeAt s) (named g)
-      (λ x y hx hy q. ap (λ b. marked false b (edgeAt s x y)) q)
-      (λ x y hx hy q. ap (λ b. marked false b (edgeAt s x y)) q)
+      (paths-cong n (after true) (multAt n t) (λ x y hx hy. sym (fresh .bits x y hx hy)) i j _ (fresh .counts i j hi hj))
+  counts-change false grounds f fresh =
+      paths-using n (after false) (multAt n s) (named g)
+      (λ x y hx hy q. ap (λ b. changed false b (multAt n s x y)) q ∙ omega (arith, edge-le (s .words) x y))
+      (λ x y hx hy q. ap (λ b. changed false b (multAt n s x y)) q ∙ omega arith)
       i j _ _ (fresh .counts i j hi hj) (valid .counts i j hi hj)
 
 -- RISE AND FALL: on a valid sheet an accepted insertion raises each count by the number of paths afterwards that use an inserted edge, and
 -- an accepted deletion lowers it by the number of paths before that use a deleted edge
-pub edit-changes : (n : ℕ) (s : List ℕ) → Valid n s → (e : Edit) → editAnswer e s .number ≡ 0
+pub edit-changes : (n : ℕ) (s : Lent) → Valid n s → (e : Edit) → editAnswer e s .number ≡ 0
     → (i j : ℕ) → i < n → j < n → Changed (e .inserts) n s (e .edges) (editAfter e s) i j
 edit-changes n s valid e q i j hi hj =
     let m = opened n s in
     let f = subst (First (modelConditions m e)) q (number-first m s (valid-modelled valid) e) in
     let a = accepted-modelled m s (valid-modelled valid) e f in
-    let p = passed e s (¬ (e .vertices ≡ n)) (edgeAt s) (Cycle n (effect m e .edge)) f in
-    let t : editWords e s ≡ editAfter e s = sym (ap (λ k. decided k (editWords e s) s) q) in
-    let x : First (effects (e .inserts) n (e .edges) (edgeAt s) (Cycle n (effect m e .edge))) 0 =
-    subst (λ k. First (effects (e .inserts) k (e .edges) (edgeAt s) (Cycle n (effect m e .edge))) 0) (a .0) (p .effects) in
-    changed n s valid (e .edges) (editAfter e s) i j hi hj (e .inserts) x (subst (Fresh (effect m e)) t (a .1 .fresh))
+    let p = passed e s m (modelGrounds m e) f in
+    let t : lent (editWords e s) ≡ editAfter e s = sym (ap (λ k. decided k (lent (editWords e s)) s) q) in
+    let x : First (effects (e .inserts) n mostParallel (e .edges) m (modelGrounds m e)) 0 =
+    subst (λ k. First (effects (e .inserts) k mostParallel (e .edges) m (modelGrounds m e)) 0) (a .0) (p .effects) in
+    counts-change n s valid (e .edges) (editAfter e s) i j hi hj (e .inserts) (modelGrounds m e) x (subst (Fresh (effect m e)) t (a .1 .fresh))

@@ -11,9 +11,9 @@ use Rattle.graph.specs.Update.{into, out, through, Closes}
 use Rattle.answer.specs.Table.{Reflects}
 use Rattle.sheet_theory.specs.Layout.{countAt}
 use Rattle.answer.proofs.TableLaws.{reflects-none, reflects-iff, reflects-or, reflects-eq, reflects-lt}
-use Rattle.edit_theory.specs.Edit.{namedAt}
+use Rattle.edit_theory.specs.Edit.{Edges, namedAt, named}
 use Rattle.edit_theory.specs.Outcome.{some, someEdge, closes}
-use Rattle.edit_theory.specs.Table.{SomeOf}
+use Rattle.edit_theory.specs.Table.{SomeEdge, SomeOf}
 
 -- ---- tests put together
 
@@ -54,12 +54,12 @@ named-into v a b i e = named-reflects v a b i v .shows (inl (e, refl))
 pub named-out : (v a b j : ℕ) → bit b j ≡ 1 → namedAt v a b v j ≡ true
 named-out v a b j e = named-reflects v a b v j .shows (inr (refl, e))
 
-pub someEdge-reflects : (n v a b : ℕ) (f : ℕ → ℕ → Bool) (P : ℕ → ℕ → Type 0) → ((i j : ℕ) → i < n → j < n → Reflects (f i j) (P i j))
-    → Reflects (someEdge n v a b f) ((i : ℕ) × (i < n) × (j : ℕ) × (j < n) × (namedAt v a b i j ≡ true) × P i j)
+pub someEdge-reflects : (n : ℕ) (g : Edges) (f : ℕ → ℕ → Bool) (P : ℕ → ℕ → Type 0) → ((i j : ℕ) → i < n → j < n → Reflects (f i j) (P i j))
+    → Reflects (someEdge n g f) (SomeEdge n g P)
 unfolding someEdge
-someEdge-reflects n v a b f P h =
+someEdge-reflects n g f P h =
     reflects-iff (λ c. (c .0, c .1, c .2 .0, c .2 .1, c .2 .2 .0, c .2 .2 .1)) (λ c. (c .0, c .1, (c .2, c .3, (c .4, c .5))))
-    (reflects-some n _ _ (λ i hi. reflects-some n _ _ (λ j hj. reflects-and (reflects-self (namedAt v a b i j)) (h i j hi hj))))
+    (reflects-some n _ _ (λ i hi. reflects-some n _ _ (λ j hj. reflects-and (reflects-self (named g i j)) (h i j hi hj))))
 
 -- ---- the cycle
 

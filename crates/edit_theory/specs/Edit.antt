@@ -1,7 +1,7 @@
 -- The edits, with their arguments as they arrive, and the edges that they name (document 01: laying and lifting one pipe, or the
 -- pipes at one station by masks). Definitions only. Assumes nothing.
 use mathlib.Core.Bool.{Bool, true, false, cond, _&&_, _||_}
-use Prim.Native.Nat.{ℕ, _^_}
+use Prim.Native.Nat.{ℕ, _+_, _-_, _^_}
 use lib.Dec.{eqb}
 use Rattle.word.specs.Bit.{hasBit}
 
@@ -63,7 +63,10 @@ named e i j = namedAt (vertexOf e) (predecessorsOf e) (successorsOf e) i j
 abbrev pub oneIf : Bool → ℕ
 oneIf there = cond there 1 0
 
--- what becomes of x, which is 1 where there is an edge and else 0: an edge that is named is there after an insertion and is not there
--- after a deletion, and any other is as it was
+-- what becomes of a row's bit: one that is named is set by an insertion and cleared by a deletion, and any other is as it was
 abbrev pub marked : Bool → Bool → ℕ → ℕ
 marked inserts isNamed x = cond isNamed (oneIf inserts) x
+
+-- what becomes of the number of edges from a vertex to another: where it is named, one more by an insertion and one less by a deletion
+abbrev pub changed : Bool → Bool → ℕ → ℕ
+changed inserts isNamed x = cond inserts (x + oneIf isNamed) (x - oneIf isNamed)

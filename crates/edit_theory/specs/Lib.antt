@@ -1,4 +1,5 @@
 pub mod Edit
+pub mod Book
 pub mod Table
 pub mod Outcome
 pub mod Model

@@ -4,7 +4,6 @@ use mathlib.Core.Bool.{Bool, true, false, _&&_, _||_}
 use mathlib.Core.List.{List, [], _∷_}
 use Prim.Native.Nat.{ℕ, zero, suc, _+_, _*_, _%_, _^_}
 use lib.Dec.{ltb, leb, eqb}
-use lib.ListN.{length}
 use Rattle.word.specs.Bit.{bit, hasBit, ofBits}
 use Rattle.word.specs.Wrap.{minus}
 use Rattle.graph.specs.Update.{fromSum, toSum, Closes}
@@ -12,9 +11,11 @@ use Rattle.answer.specs.declared.Answer.{Answer}
 use Rattle.answer.specs.Table.{_gives_, Conditions, Tests, firstTrue}
 use Rattle.answer.specs.Answers.{decided, answered}
 use Rattle.sheet_theory.specs.Layout.{countAt, edgeAt, setBits, redone}
-use Rattle.sheet_theory.specs.Conditions.{BadLength, vertexTests, sizedTests}
-use Rattle.edit_theory.specs.Edit.{Edges, one, at, Edit, vertexOf, predecessorsOf, successorsOf, namedAt, marked}
-use Rattle.edit_theory.specs.Table.{table}
+use Rattle.sheet_theory.specs.Lent.{Lent, lent}
+use Rattle.sheet_theory.specs.Conditions.{BadLength, vertexTests, alteringTests}
+use Rattle.edit_theory.specs.Edit.{Edges, one, at, Edit, vertexOf, predecessorsOf, successorsOf, namedAt, named, marked}
+use Rattle.edit_theory.specs.Book.{Model, opened}
+use Rattle.edit_theory.specs.Table.{mostParallel, Grounds, table}
 
 -- ---- the refusals
 
@@ -28,23 +29,27 @@ abbrev pub arguedTests : ℕ → Edges → Tests → Tests
 arguedTests n (one u v) l = vertexTests n u v l
 arguedTests n (at v a b) l = leb n v gives 3 ∷ (leb (2 ^ n) a || leb (2 ^ n) b) gives 4 ∷ l
 
--- whether f is true of some edge at v, by the masks a and b
-unfoldable pub someEdge : ℕ → ℕ → ℕ → ℕ → (ℕ → ℕ → Bool) → Bool
-someEdge n v a b f = some n (λ i. some n (λ j. namedAt v a b i j && f i j))
+-- whether f is true of some of the edges g
+unfoldable pub someEdge : ℕ → Edges → (ℕ → ℕ → Bool) → Bool
+someEdge n g f = some n (λ i. some n (λ j. named g i j && f i j))
 
-module _ (n : ℕ) (s : List ℕ) (v a b : ℕ) where
-  -- whether the counts show a path that the edges would close to a cycle: from v to a predecessor, from a successor to v, or from a
-  -- successor to a predecessor
-  unfoldable pub closes : Bool
-  closes =
-      some n (λ k. hasBit a k && ltb 0 (countAt n s v k))
-      || (some n (λ k. hasBit b k && ltb 0 (countAt n s k v))
-      || some n (λ i. hasBit b i && some n (λ j. hasBit a j && ltb 0 (countAt n s i j))))
+-- 5 and 6 of an insertion, 7 of a deletion, and then the tests l
+abbrev pub clashTests : Bool → ℕ → ℕ → Edges → Model → Tests → Tests
+clashTests true n most g m l = someEdge n g eqb gives 5 ∷ someEdge n g (λ i j. leb most (m .edge i j)) gives 6 ∷ l
+clashTests false n most g m l = someEdge n g (λ i j. eqb (m .edge i j) 0) gives 7 ∷ l
 
-  -- 5, 6 and 8 of an insertion, 7 of a deletion
-  abbrev pub effectTests : Bool → Tests
-  effectTests true = someEdge n v a b eqb gives 5 ∷ someEdge n v a b (λ i j. eqb (edgeAt s i j) 1) gives 6 ∷ closes gives 8 ∷ []
-  effectTests false = someEdge n v a b (λ i j. eqb (edgeAt s i j) 0) gives 7 ∷ []
+-- 8, of an insertion alone
+abbrev pub endingTests : Bool → Bool → Tests
+endingTests true closed = closed gives 8 ∷ []
+endingTests false closed = []
+
+-- whether the counts show a path that the edges at v would close to a cycle: from v to a predecessor, from a successor to v, or from a
+-- successor to a predecessor
+unfoldable pub closes : ℕ → List ℕ → ℕ → ℕ → ℕ → Bool
+closes n s v a b =
+    some n (λ k. hasBit a k && ltb 0 (countAt n s v k))
+    || (some n (λ k. hasBit b k && ltb 0 (countAt n s k v))
+    || some n (λ i. hasBit b i && some n (λ j. hasBit a j && ltb 0 (countAt n s i j))))
 
 -- ---- the words
 
@@ -68,29 +73,34 @@ edited inserts n s v a b = redone n (editedRow inserts s v a b) (editedCount ins
 
 -- ---- the calls
 
-module _ (e : Edit) (s : List ℕ) where
+module _ (e : Edit) (s : Lent) where
   -- the conditions on s; whether a cycle would close is judged by the counts
+  abbrev pub editGrounds : Grounds
+  editGrounds = record {
+    other = BadLength (e .vertices) s;
+    closed = Closes (e .vertices) (countAt (e .vertices) (s .words)) (vertexOf (e .edges)) (bit (predecessorsOf (e .edges))) (bit (successorsOf (e .edges)));
+  }
+
   abbrev pub editConditions : Conditions
-  editConditions =
-      table e (BadLength (e .vertices) s) (edgeAt s)
-      (Closes (e .vertices) (countAt (e .vertices) s) (vertexOf (e .edges)) (bit (predecessorsOf (e .edges))) (bit (successorsOf (e .edges))))
+  editConditions = table e mostParallel (opened (e .vertices) s) editGrounds
 
   abbrev pub editTests : Tests
   editTests =
-      sizedTests (e .vertices) (length s)
+      alteringTests (e .vertices) s
       (arguedTests (e .vertices) (e .edges)
-      (effectTests (e .vertices) s (vertexOf (e .edges)) (predecessorsOf (e .edges)) (successorsOf (e .edges)) (e .inserts)))
+      (clashTests (e .inserts) (e .vertices) mostParallel (e .edges) (opened (e .vertices) s)
+      (endingTests (e .inserts) (closes (e .vertices) (s .words) (vertexOf (e .edges)) (predecessorsOf (e .edges)) (successorsOf (e .edges))))))
 
   abbrev pub editNumber : ℕ
   editNumber = firstTrue editTests
 
   abbrev pub editWords : List ℕ
-  editWords = edited (e .inserts) (e .vertices) s (vertexOf (e .edges)) (predecessorsOf (e .edges)) (successorsOf (e .edges))
+  editWords = edited (e .inserts) (e .vertices) (s .words) (vertexOf (e .edges)) (predecessorsOf (e .edges)) (successorsOf (e .edges))
 
   -- what e answers on s
   abbrev pub editAnswer : Answer
   editAnswer = answered editNumber (setBits (e .vertices) editWords)
 
   -- what e leaves of s
-  abbrev pub editAfter : List ℕ
-  editAfter = decided editNumber editWords s
+  abbrev pub editAfter : Lent
+  editAfter = decided editNumber (lent editWords) s

@@ -16,7 +16,8 @@ use Rattle.answer.proofs.TableLaws.{first-only}
 use Rattle.answer.proofs.AnswerLaws.{decided-old}
 use Rattle.edit_theory.specs.Edit.{Edit, insertEdge, deleteEdge}
 use Rattle.edit_theory.specs.Outcome.{editNumber, editWords, editAfter}
-use Rattle.edit_theory.specs.Model.{Model, effect, modelConditions, edgeCount}
+use Rattle.edit_theory.specs.Book.{Model}
+use Rattle.edit_theory.specs.Model.{effect, modelConditions, edgeCount}
 use Rattle.edit_theory.proofs.FreshLaws.{Modelled}
 use Rattle.edit_theory.proofs.StepLaws.{number-first, accepted-modelled}
 use Rattle.edit_lists.specs.Run.{Run, done, then, answers, after}

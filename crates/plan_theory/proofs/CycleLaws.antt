@@ -3,7 +3,7 @@ use mathlib.Core.Path.{_≡_, refl, sym, subst}
 use mathlib.Core.Logic.{inl}
 use mathlib.Core.Bool.{true, false}
 use mathlib.Core.List.{List, _∷_, _++_}
-use Prim.Native.Nat.{ℕ, suc}
+use Prim.Native.Nat.{ℕ, suc, _≤_}
 use native.Mathlib.Omega.{arith}
 use lib.ListN.{length}
 use Rattle.record.specs.declared.Record.{Record}
@@ -12,7 +12,9 @@ use Rattle.answer.specs.Table.{First}
 use Rattle.sheet_theory.specs.Conditions.{BadVertices}
 use Rattle.answer.proofs.TableLaws.{first-other, first-last}
 use Rattle.edit_theory.specs.Edit.{insertEdge, deleteEdge}
-use Rattle.edit_theory.specs.Model.{Model, modelConditions}
+use Rattle.edit_theory.specs.Book.{Model}
+use Rattle.edit_theory.specs.Table.{mostParallel}
+use Rattle.edit_theory.specs.Model.{modelConditions}
 use Rattle.edit_theory.proofs.NamedLaws.{some-one}
 use Rattle.plan_theory.specs.Taken.{RecordNumber, Stops, Closing, ClosesAt}
 use Rattle.edit_theory.proofs.MayLaws.{edge-effects, insert-first}
@@ -28,7 +30,7 @@ module _ (m : Model) (u v : ℕ) where
         from = a .0;
         to = a .1;
         apart = λ e. b .0 (some-one (m .vertices) u v (λ i j. i ≡ j) (a .0) (a .1) .1 e);
-        new = λ e. c .0 (some-one (m .vertices) u v (λ i j. m .edge i j ≡ 1) (a .0) (a .1) .1 e);
+        new = λ e. c .0 (some-one (m .vertices) u v (λ i j. mostParallel ≤ m .edge i j) (a .0) (a .1) .1 e);
         cycle = first-last (c .1) .0 refl;
       }
 

@@ -18,7 +18,8 @@ use Rattle.sheet_theory.specs.Valid.{Valid}
 use Rattle.answer.proofs.TableLaws.{first-only, first-iff, first-past, first-last, first-accepts}
 use Rattle.answer.proofs.AnswerLaws.{decided-old, answer-ext}
 use Rattle.recount_theory.proofs.Meaning.{valid-validates}
-use Rattle.edit_theory.specs.Model.{Model, opened, Fresh}
+use Rattle.edit_theory.specs.Book.{Model, opened}
+use Rattle.edit_theory.specs.Model.{Fresh}
 use Rattle.edit_theory.proofs.FreshLaws.{modelled-valid, valid-modelled}
 use Rattle.edit_lists.specs.Run.{Run}
 use Rattle.edit_lists.proofs.WholeLists.{whole-list}

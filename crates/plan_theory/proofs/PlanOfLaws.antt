@@ -7,6 +7,7 @@ use mathlib.Core.List.{List, [], _∷_, _++_}
 use Prim.Native.Nat.{ℕ, zero, suc, _+_, _*_, _/_, _%_, _≤_, _<_}
 use native.Mathlib.Nat.{zero-add, suc-add}
 use native.Mathlib.Omega.{arith}
+use lib.Dec.{ltb}
 use lib.ListN.{length, take, drop, length-append, length-drop}
 use lib.Seq.{take-append-le, drop-append-le}
 use Rattle.sums.proofs.SumLaws.{sum-cong}
@@ -23,7 +24,9 @@ use Rattle.record.proofs.RecordLaws.{decoded-encoded}
 use Rattle.sheet_theory.specs.Layout.{rowAt, edgeAt, setBits}
 use Rattle.sheet_theory.specs.Valid.{Valid}
 use Rattle.sheet_theory.proofs.Meaning.{valid-edges-le}
-use Rattle.edit_theory.specs.Model.{opened, edgeCount}
+use Rattle.edit_theory.specs.Edit.{oneIf}
+use Rattle.edit_theory.specs.Book.{opened}
+use Rattle.edit_theory.specs.Model.{edgeCount}
 use Rattle.edit_theory.proofs.FreshLaws.{valid-modelled, fresh-value}
 use Rattle.plan_theory.specs.Records.{records}
 use Rattle.plan_theory.specs.PlanOf.{edgeInsert, rowInserts, edgeRecords, edgeBytes, planOf, edgeOf}
@@ -38,7 +41,7 @@ plan-edges n s t h =
 
 -- ---- the edges of a sheet as records
 
-said-length : (s : List ℕ) (i j : ℕ) → length (edgeInsert s i j) ≡ edgeAt s i j
+said-length : (s : List ℕ) (i j : ℕ) → length (edgeInsert s i j) ≡ oneIf (ltb 0 (edgeAt s i j))
 said-length s i j = elim (bit-cases (rowAt s i) j) [ inl e ↦ rw e | inr e ↦ rw e ]
 
 -- they are as many as the edges

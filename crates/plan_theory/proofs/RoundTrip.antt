@@ -21,7 +21,8 @@ use Rattle.sheet_theory.proofs.ValidLaws.{edge-le, accepted-valid, valid-passed
 use Rattle.sheet_theory.proofs.Meaning.{empty-edge, empty-valid}
 use Rattle.edit_theory.specs.Edit.{Edit, insertEdge}
 use Rattle.edit_theory.specs.Outcome.{editNumber, editWords}
-use Rattle.edit_theory.specs.Model.{Model, modelConditions}
+use Rattle.edit_theory.specs.Book.{Model}
+use Rattle.edit_theory.specs.Model.{modelConditions}
 use Rattle.edit_theory.proofs.FreshLaws.{Modelled, modelled-edge, valid-modelled, fresh-only}
 use Rattle.edit_theory.proofs.StepLaws.{number-first, accepted-modelled}
 use Rattle.plan_theory.specs.Records.{numberOn, leftBy, Applied, applied}
@@ -37,11 +38,11 @@ use Rattle.plan_theory.proofs.PlanOfLaws.{edge-records-iff, edge-record
 -- ---- one edge more
 
 -- the edges e, and the one from u to v
-with-iff : (e : ℕ → ℕ → ℕ) (u v i j : ℕ) → (with true e u v i j ≡ 1) ↔ (((i ≡ u) × (j ≡ v)) ⊎ (e i j ≡ 1))
+with-iff : (e : ℕ → ℕ → ℕ) (u v i j : ℕ) → (0 < with true e u v i j) ↔ (((i ≡ u) × (j ≡ v)) ⊎ (0 < e i j))
 with-iff e u v i j =
     elim (with-cases true e u v i j) [
-      | inl c ↦ (λ q. inl (c .0, c .1), λ q. c .2)
-      | inr c ↦ (λ q. inr (sym (c .1) ∙ q), λ q. elim q [ inl d ↦ absurd (c .0 d) | inr d ↦ c .1 ∙ d ])
+      | inl c ↦ (λ q. inl (c .0, c .1), λ q. omega (arith, c .2))
+      | inr c ↦ (λ q. inr (omega (arith, c .1)), λ q. elim q [ inl d ↦ absurd (c .0 d) | inr d ↦ omega (arith, c .1) ])
     ]
 
 -- ---- insertions that are all accepted
@@ -60,7 +61,7 @@ record Gained (n : ℕ) (e : ℕ → ℕ → ℕ) (l : List Record) (q : Applied
   pub through : q ≡ whole words
   pub edge : ℕ → ℕ → ℕ
   pub modelled : Modelled (model n edge) words
-  pub edges : (i j : ℕ) → (edge i j ≡ 1) ↔ ((e i j ≡ 1) ⊎ (Insert i j isIn l))
+  pub edges : (i j : ℕ) → (0 < edge i j) ↔ ((0 < e i j) ⊎ (Insert i j isIn l))
 
 gained-none : (n : ℕ) (e : ℕ → ℕ → ℕ) (s : List ℕ) → Modelled (model n e) s → Gained n e [] (whole s)
 gained-none n e s m = record {
@@ -171,7 +172,7 @@ module _ (n : ℕ) (s : List ℕ) (valid : Valid n s) where
       (λ i j hi hj p. absurd (omega (arith, p, empty-edge n i j hi hj))) (valid-modelled empty-good))
 
   -- so its edges are those of s, and it is s
-  gained-iff : (i j : ℕ) → i < n → j < n → (plan-gained .edge i j ≡ 1) ↔ (edgeAt s i j ≡ 1)
+  gained-iff : (i j : ℕ) → i < n → j < n → (0 < plan-gained .edge i j) ↔ (edgeAt s i j ≡ 1)
   gained-iff i j hi hj =
       let p = plan-gained .edges i j in
       let q = edge-records-iff n s i j hi hj in (
@@ -182,11 +183,10 @@ module _ (n : ℕ) (s : List ℕ) (valid : Valid n s) where
   gained-edge : (i j : ℕ) → i < n → j < n → plan-gained .edge i j ≡ edgeAt s i j
   gained-edge i j hi hj =
       let p = gained-iff i j hi hj in
+      let one = modelled-edge (plan-gained .modelled) i j hi hj in
       elim (ℕ-discrete (edgeAt s i j) 1) [
-        | yes e ↦ p .1 e ∙ sym e
-        | no d ↦
-            let c : plan-gained .edge i j ≡ 1 → ⊥ = λ h. d (p .0 h) in
-            omega (arith, modelled-edge (plan-gained .modelled) i j hi hj, edge-le s i j)
+        | yes e ↦ omega (arith, p .1 e)
+        | no d ↦ let c : 0 < plan-gained .edge i j → ⊥ = λ h. d (p .0 h) in omega (arith, edge-le s i j)
       ]
 
   plan-applied : appliedPlan n (emptySheet n) (planOf n s) ≡ whole s

@@ -8,7 +8,8 @@ use Rattle.answer.specs.declared.Answer.{Answer}
 use Rattle.answer.specs.Answers.{answer}
 use Rattle.sheet_theory.specs.Layout.{setBits}
 use Rattle.sheet_theory.specs.Valid.{Valid}
-use Rattle.edit_theory.specs.Model.{Model, opened, Fresh}
+use Rattle.edit_theory.specs.Book.{Model, opened}
+use Rattle.edit_theory.specs.Model.{Fresh}
 use Rattle.edit_lists.specs.Run.{Run, answers, after}
 use Rattle.edit_lists.specs.WholeList.{WholeList}
 use Rattle.plan_theory.specs.Records.{records, edits}

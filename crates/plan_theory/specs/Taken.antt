@@ -3,7 +3,7 @@
 use mathlib.Core.Path.{_≡_}
 use mathlib.Core.Logic.{_⊎_}
 use mathlib.Core.List.{List, [], _∷_, _++_}
-use Prim.Native.Nat.{ℕ, suc, _<_}
+use Prim.Native.Nat.{ℕ, suc, _≤_, _<_}
 use lib.ListN.{length}
 use Rattle.record.specs.declared.Record.{Record}
 use Rattle.record.specs.declared.Record.the-variants.{Insert, Malformed}
@@ -11,7 +11,9 @@ use Rattle.record.specs.Record.{recordNumber}
 use Rattle.graph.specs.Graph.{Cycle}
 use Rattle.answer.specs.Table.{First}
 use Rattle.edit_theory.specs.Edit.{insertEdge}
-use Rattle.edit_theory.specs.Model.{Model, effect, modelConditions}
+use Rattle.edit_theory.specs.Book.{Model}
+use Rattle.edit_theory.specs.Table.{mostParallel}
+use Rattle.edit_theory.specs.Model.{effect, modelConditions}
 use Rattle.plan_theory.specs.Records.{byEdit}
 
 -- k is the number of a record on the model m: that of its form, or that of its edit
@@ -22,7 +24,7 @@ RecordNumber m x k = byEdit (m .vertices) (λ e. First (modelConditions m e) k) 
 abbrev pub recordEffect : Model → Record → Model
 recordEffect m = byEdit (m .vertices) (effect m) m
 
--- x is what becomes of the edge from i to j, where k is what becomes of the edge from u to v, and any other stays what it was, w
+-- x is what becomes of the number of edges from i to j, where k is what becomes of that from u to v, and any other stays what it was, w
 abbrev pub OnlyAt : ℕ → ℕ → ℕ → ℕ → ℕ → ℕ → ℕ → Type 0
 OnlyAt u v k i j w x = ((i ≡ u) × (j ≡ v) × (x ≡ k)) ⊎ ((¬ ((i ≡ u) × (j ≡ v))) × (x ≡ w))
 
@@ -48,7 +50,7 @@ pub record Closing (n : ℕ) (m : Model) (u v : ℕ) : Type 0 where
   pub from : u < n
   pub to : v < n
   pub apart : ¬ (u ≡ v)
-  pub new : ¬ (m .edge u v ≡ 1)
+  pub new : ¬ (mostParallel ≤ m .edge u v)
   pub cycle : Cycle n (effect m (insertEdge n u v) .edge)
 
 -- the first record of l that is refused inserts an edge that closes a cycle

@@ -18,7 +18,7 @@ use Rattle.answer.proofs.TableLaws.{Agree, reflects-or, reflects-not, reflects-
 use Rattle.answer.proofs.ByNumber.{first-not, first-after}
 
 -- whether a sheet has the number of words
-length-test : (n : ℕ) (s : Lent) → Reflects (not (eqb (length (s .words)) (size n))) (BadLength n s)
+pub length-test : (n : ℕ) (s : Lent) → Reflects (not (eqb (length (s .words)) (size n))) (BadLength n s)
 unfolding BadLength
 length-test n s = reflects-not (reflects-eq (length (s .words)) (size n))
 

@@ -4,11 +4,11 @@ use mathlib.Core.Path.{_≡_, refl, sym, ap, subst, _∙_}
 use mathlib.Core.Logic.{_↔_}
 use mathlib.Core.Bool.{Bool, true, false, cond, _&&_, false≢true}
 use mathlib.Core.List.{List, [], _∷_}
-use Prim.Native.Nat.{ℕ, zero, suc, _<_}
+use Prim.Native.Nat.{ℕ, zero, suc, _≤_, _<_}
 use native.Mathlib.Decide.{ℕ-discrete}
 use native.Mathlib.Omega.{arith}
 use borrow.Author.Tests.{ltb-true, eqb-true}
-use lib.Dec.{ltb, eqb}
+use lib.Dec.{ltb, leb, eqb}
 use lib.ListN.{length}
 use Rattle.sums.specs.Sum.{sum}
 use Rattle.sums.proofs.SumLaws.{sum-cong}
@@ -18,15 +18,16 @@ use Rattle.graph.proofs.Walks.{rising-acyclic, path-cong, cycle-cong}
 use Rattle.graph.proofs.Counting.{walkList, walkList-distinct, path-listed-iff}
 use Rattle.answer.specs.Table.{_gives_, First, firstTrue, Reflects}
 use Rattle.answer.specs.Answers.{answer, decided}
-use Rattle.sheet_theory.specs.Layout.{edgeAt}
+use Rattle.sheet_theory.specs.Layout.{edgeAt, multAt}
 use Rattle.sheet_theory.specs.Calls.{pathCountAnswer}
-use Rattle.answer.proofs.TableLaws.{reflects-false, reflects-eq, first-true, first-rest, first-last, first-accepts}
+use Rattle.answer.proofs.TableLaws.{reflects-false, reflects-le, reflects-eq, first-true, first-rest, first-last, first-accepts}
 use Rattle.answer.proofs.AnswerLaws.{answer-ext}
 use Rattle.sheet_theory.proofs.Meaning.{path-count-exact}
-use Rattle.edit_theory.specs.Edit.{Edges, Edit, vertexOf, predecessorsOf, successorsOf, named, oneIf, marked}
-use Rattle.edit_theory.specs.Table.{SomeEdge, argued, effects}
+use Rattle.edit_theory.specs.Edit.{Edges, Edit, named, oneIf, changed}
+use Rattle.edit_theory.specs.Table.{SomeEdge, argued, mostParallel, effects}
 use Rattle.edit_theory.specs.Outcome.{arguedTests, someEdge, editAnswer, editAfter}
-use Rattle.edit_theory.specs.Model.{opened, effect, edgeCount, Fresh}
+use Rattle.edit_theory.specs.Book.{opened}
+use Rattle.edit_theory.specs.Model.{effect, edgeCount, modelGrounds, Fresh}
 use Rattle.edit_theory.proofs.TestLaws.{someEdge-reflects}
 use Rattle.edit_theory.proofs.ConditionLaws.{argued-agree}
 use Rattle.edit_theory.proofs.FreshLaws.{valid-modelled, fresh-only}
@@ -99,7 +100,7 @@ module _ (n : ℕ) (l : List (ℕ × ℕ)) (s : List ℕ) (o : SheetOf n l s) wh
   -- ---- an edit of it, whose arguments are in order and after which the edges are m
 
   module _ (inserts : Bool) (g : Edges) (ok : firstTrue (arguedTests n g []) ≡ 0)
-      (m : List (ℕ × ℕ)) (becomes : same n (λ i j. marked inserts (named g i j) (edgesOf l i j)) (edgesOf m) ≡ true) where
+      (m : List (ℕ × ℕ)) (becomes : same n (λ i j. changed inserts (named g i j) (edgesOf l i j)) (edgesOf m) ≡ true) where
     abbrev edit : Edit
     edit = record { inserts = inserts; vertices = n; edges = g }
 
@@ -107,10 +108,17 @@ module _ (n : ℕ) (l : List (ℕ × ℕ)) (s : List ℕ) (o : SheetOf n l s) wh
     after = effect (opened n s) edit .edge
 
     after-is : (i j : ℕ) → i < n → j < n → after i j ≡ edgesOf m i j
-    after-is i j hi hj = ap (marked inserts (named g i j)) (o .edges i j hi hj) ∙ same-of n _ _ becomes i j hi hj
+    after-is i j hi hj = ap (changed inserts (named g i j)) (o .edges i j hi hj) ∙ same-of n _ _ becomes i j hi hj
+
+    one-edge : (i j : ℕ) → i < n → j < n → oneIf (ltb 0 (after i j)) ≡ edgesOf m i j
+    one-edge i j hi hj = ap (λ x. oneIf (ltb 0 x)) (after-is i j hi hj) ∙ go (listed m i j)
+      where
+        go : (t : Bool) → oneIf (ltb 0 (oneIf t)) ≡ oneIf t
+        go true = refl
+        go false = refl
 
     -- the number is that of the first condition on the edges that holds
-    first-effect : First (effects inserts n g (edgeAt s) (Cycle n after)) (editAnswer edit s .number)
+    first-effect : First (effects inserts n mostParallel g (opened n s) (modelGrounds (opened n s) edit)) (editAnswer edit s .number)
     first-effect =
         edit-effects n s (o .valid) inserts g
         (subst (First (argued n g [])) ok (first-true (argued n g []) (arguedTests n g []) (argued-agree n g [] [] (λ a. tt))))
@@ -124,33 +132,28 @@ module _ (n : ℕ) (l : List (ℕ × ℕ)) (s : List ℕ) (o : SheetOf n l s) wh
           answer-ext _ _ z refl
               (r .1 .value
               ∙ ap (λ k. decided k (edgeCount (effect (opened n s) edit)) 0) z
-              ∙ sum-cong n _ _ (λ i hi. sum-cong n _ _ (λ j hj. after-is i j hi hj))),
+              ∙ sum-cong n _ _ (λ i hi. sum-cong n _ _ (λ j hj. one-edge i j hi hj))),
           record { valid = r .3; edges = λ i j hi hj. f .bits i j hi hj ∙ after-is i j hi hj },
         )
 
-  -- whether f is true of some edge named
-  abbrev any : Edges → (ℕ → ℕ → Bool) → Bool
-  any g f = someEdge n (vertexOf g) (predecessorsOf g) (successorsOf g) f
-
-  -- of no edge named the table says x
-  none-named : (g : Edges) (x : ℕ) → any g (λ i j. eqb (edgesOf l i j) x) ≡ false → ¬ (SomeEdge n g (λ i j. edgeAt s i j ≡ x))
-  none-named g x e =
-      reflects-false
-      (someEdge-reflects n _ _ _ _ (λ i j. edgeAt s i j ≡ x) (λ i j hi hj. subst (λ y. Reflects (eqb (edgesOf l i j) x) (y ≡ x)) (sym (o .edges i j hi hj)) (reflects-eq (edgesOf l i j) x)))
-      .0 e
+  -- of no edge named the test f is true, which decides of the edges listed what P says
+  none-named : (g : Edges) (f : ℕ → Bool) (P : ℕ → Type 0) → ((x : ℕ) → Reflects (f x) (P x)) → someEdge n g (λ i j. f (edgesOf l i j)) ≡ false
+      → ¬ (SomeEdge n g (λ i j. P (multAt n s i j)))
+  none-named g f P h e =
+      reflects-false (someEdge-reflects n g (λ i j. f (edgesOf l i j)) (λ i j. P (multAt n s i j)) (λ i j hi hj. rw (o .edges i j hi hj) (h (edgesOf l i j)))) .0 e
 
   module _ (g : Edges) (ok : firstTrue (arguedTests n g []) ≡ 0) (m : List (ℕ × ℕ)) where
     -- ---- an insertion: no edge named runs from a vertex to itself, and none is there
 
-    module _ (becomes : same n (λ i j. marked true (named g i j) (edgesOf l i j)) (edgesOf m) ≡ true)
-        (noLoop : any g eqb ≡ false) (new : any g (λ i j. eqb (edgesOf l i j) 1) ≡ false) where
+    module _ (becomes : same n (λ i j. changed true (named g i j) (edgesOf l i j)) (edgesOf m) ≡ true)
+        (noLoop : someEdge n g eqb ≡ false) (new : someEdge n g (λ i j. leb mostParallel (edgesOf l i j)) ≡ false) where
       abbrev insertion : Edit
       insertion = record { inserts = true; vertices = n; edges = g }
 
       first-cycle : First (Cycle n (effect (opened n s) insertion .edge) gives 8 ∷ []) (editAnswer insertion s .number)
       first-cycle =
-          first-rest (none-named g 1 new)
-          (first-rest (reflects-false (someEdge-reflects n _ _ _ eqb (λ i j. i ≡ j) (λ i j hi hj. reflects-eq i j)) .0 noLoop) (first-effect true g ok m becomes))
+          first-rest (none-named g (leb mostParallel) (λ x. mostParallel ≤ x) (reflects-le mostParallel) new)
+          (first-rest (reflects-false (someEdge-reflects n g eqb (λ i j. i ≡ j) (λ i j hi hj. reflects-eq i j)) .0 noLoop) (first-effect true g ok m becomes))
 
       -- if the edges m have a cycle, it is refused by 8, and no word is changed
       pub known-closes : Cycle n (edgesOf m) → (editAnswer insertion s ≡ answer 8 0 0) × (editAfter insertion s ≡ s)
@@ -171,10 +174,10 @@ module _ (n : ℕ) (l : List (ℕ × ℕ)) (s : List ℕ) (o : SheetOf n l s) wh
 
     -- ---- a deletion: every edge named is there
 
-    pub known-deletes : same n (λ i j. marked false (named g i j) (edgesOf l i j)) (edgesOf m) ≡ true → any g (λ i j. eqb (edgesOf l i j) 0) ≡ false →
+    pub known-deletes : same n (λ i j. changed false (named g i j) (edgesOf l i j)) (edgesOf m) ≡ true → someEdge n g (λ i j. eqb (edgesOf l i j) 0) ≡ false →
         let deletion : Edit = record { inserts = false; vertices = n; edges = g } in
         (editAnswer deletion s ≡ answer 0 0 (sum n (λ i. sum n (edgesOf m i)))) × SheetOf n m (editAfter deletion s)
-    known-deletes becomes there = leaves false g ok m becomes (first-rest (none-named g 0 there) (first-effect false g ok m becomes))
+    known-deletes becomes there = leaves false g ok m becomes (first-rest (none-named g (λ x. eqb x 0) (λ x. x ≡ 0) (λ x. reflects-eq x 0) there) (first-effect false g ok m becomes))
 
 -- there is one sheet of these edges
 pub known-only : (n : ℕ) (l : List (ℕ × ℕ)) (s t : List ℕ) → SheetOf n l s → SheetOf n l t → s ≡ t
