@@ -46,7 +46,7 @@ first-not (c ∷ cs) k f j e p =
     ]
 
 -- whether no condition has the number k, which is not 0
-abbrev absent : Conditions → ℕ → Bool
+abbrev pub absent : Conditions → ℕ → Bool
 absent [] k = not (eqb k 0)
 absent (c ∷ l) k = cond (eqb k (c .1)) false (absent l k)
 
@@ -55,7 +55,8 @@ abbrev pub once : Conditions → ℕ → Bool
 once [] k = false
 once (c ∷ l) k = pick k (c .1) (absent l k) false (once l k)
 
-first-absent : (cs : Conditions) (k : ℕ) → First cs k → absent cs k ≡ true → ⊥
+-- a number that no condition has is not given
+pub first-absent : (cs : Conditions) (k : ℕ) → First cs k → absent cs k ≡ true → ⊥
 first-absent [] k f e = false≢true (sym (ap not (eq-eqb k 0 f)) ∙ e)
 first-absent (c ∷ cs) k (inl x) e = false≢true (sym (ap (λ t. cond t false (absent cs k)) (eq-eqb k (c .1) (x .1))) ∙ e)
 first-absent (c ∷ cs) k (inr x) e = first-absent cs k (x .1) (kept (eqb k (c .1)) (absent cs k) e)

@@ -1,7 +1,6 @@
--- When one edge may be inserted into the model, and why an edit of one edge is refused. Assumes nothing.
+-- When one edge may be inserted into the model. Assumes nothing.
 use mathlib.Core.Path.{_≡_, refl, subst}
 use mathlib.Core.Logic.{_⊎_, inl, inr}
-use mathlib.Core.Bool.{Bool}
 use mathlib.Core.List.{[], _∷_}
 use Prim.Native.Nat.{ℕ, _≤_, _<_}
 use native.Mathlib.Nat.{lt-of-not-le}
@@ -9,24 +8,15 @@ use native.Mathlib.Omega.{arith}
 use Rattle.graph.specs.Graph.{Cycle}
 use Rattle.answer.specs.Table.{_gives_, First}
 use Rattle.answer.specs.Answers.{answer}
-use Rattle.answer.proofs.TableLaws.{first-other}
 use Rattle.answer.proofs.ByNumber.{first-not}
 use Rattle.sheet_theory.specs.Conditions.{BadVertices}
-use Rattle.edit_theory.specs.Edit.{one, edgeEdit, insertEdge}
-use Rattle.edit_theory.specs.Table.{SomeEdge, mostParallel, effects}
+use Rattle.edit_theory.specs.Edit.{one, insertEdge}
+use Rattle.edit_theory.specs.Table.{SomeEdge, mostParallel}
 use Rattle.edit_theory.specs.Book.{Model}
-use Rattle.edit_theory.specs.Model.{effect, edgeCount, modelGrounds, modelConditions, MayInsert, Free}
+use Rattle.edit_theory.specs.Model.{effect, edgeCount, modelConditions, MayInsert, Free}
 use Rattle.edit_theory.proofs.NamedLaws.{some-one}
 
 module _ (m : Model) (u v : ℕ) where
-  -- by a number above 3: the edit names two vertices, and is refused for what it does
-  pub edge-effects : (inserts : Bool) (k : ℕ) → 3 < k → First (modelConditions m (edgeEdit inserts (m .vertices) u v)) k
-      → (u < m .vertices) × (v < m .vertices)
-      × First (effects inserts (m .vertices) mostParallel (one u v) m (modelGrounds m (edgeEdit inserts (m .vertices) u v))) k
-  edge-effects inserts k h f =
-      let a = first-other (λ e. omega (arith, e)) (first-other (λ e. omega (arith, e)) (first-other (λ e. omega (arith, e)) f .1) .1) in
-      (lt-of-not-le (λ l. a .0 (inl l)), lt-of-not-le (λ l. a .0 (inr l)), a .1)
-
   -- an insertion of one edge, between two vertices and fewer than the most there, is refused by 8 or not at all
   pub insert-first : ¬ (BadVertices (m .vertices)) → u < m .vertices → v < m .vertices → ¬ (u ≡ v) → ¬ (mostParallel ≤ m .edge u v)
       → (k : ℕ) → First (Cycle (m .vertices) (effect m (insertEdge (m .vertices) u v) .edge) gives 8 ∷ []) k

@@ -21,6 +21,7 @@ use Rattle.edit_theory.specs.Model.{effect, modelConditions, edgeCount}
 use Rattle.edit_theory.proofs.FreshLaws.{Modelled}
 use Rattle.edit_theory.proofs.StepLaws.{number-first, accepted-modelled}
 use Rattle.edit_lists.specs.Run.{Run, done, then, answers, after}
+use Rattle.sheet_theory.specs.Lent.{Lent, lent}
 use Rattle.plan_theory.specs.Records.{recordEdits, edits, numberOn, leftBy, Applied, applied}
 use Rattle.plan_theory.specs.Taken.{RecordNumber, recordEffect, Taken, Stops}
 use Rattle.plan_theory.specs.Accepted.{Accepted}
@@ -28,7 +29,7 @@ use Rattle.plan_theory.specs.Accepted.{Accepted}
 -- ---- one record
 
 -- its number is the model's
-record-number : (n : ℕ) (m : Model) (s : List ℕ) → Modelled m s → m .vertices ≡ n → (x : Record) → RecordNumber m x (numberOn n s x)
+record-number : (n : ℕ) (m : Model) (s : Lent) → Modelled m s → m .vertices ≡ n → (x : Record) → RecordNumber m x (numberOn n s x)
 unfolding numberOn
 record-number n m s h q x = subst (λ y. RecordNumber m x (numberOn y s x)) q (go x)
   where
@@ -37,13 +38,13 @@ record-number n m s h q x = subst (λ y. RecordNumber m x (numberOn y s x)) q (g
     go (Delete u v) = number-first m s h (deleteEdge (m .vertices) u v)
     go Malformed = refl
 
-edit-left : (m : Model) (s : List ℕ) → Modelled m s → (e : Edit) → editNumber e s ≡ 0 → Modelled (effect m e) (editAfter e s)
+edit-left : (m : Model) (s : Lent) → Modelled m s → (e : Edit) → editNumber e s ≡ 0 → Modelled (effect m e) (editAfter e s)
 edit-left m s h e z =
-    subst (Modelled (effect m e)) (sym (ap (λ k. decided k (editWords e s) s) z))
+    subst (Modelled (effect m e)) (sym (ap (λ k. decided k (lent (editWords e s)) s) z))
     (accepted-modelled m s h e (subst (First (modelConditions m e)) z (number-first m s h e)) .1)
 
 -- and what it leaves, if it is not refused, is the sheet of what it makes of the model
-record-left : (n : ℕ) (m : Model) (s : List ℕ) → Modelled m s → m .vertices ≡ n → (x : Record) → numberOn n s x ≡ 0
+record-left : (n : ℕ) (m : Model) (s : Lent) → Modelled m s → m .vertices ≡ n → (x : Record) → numberOn n s x ≡ 0
     → Modelled (recordEffect m x) (leftBy n s x)
 unfolding numberOn
 record-left n m s h q x = subst (λ y. numberOn y s x ≡ 0 → Modelled (recordEffect m x) (leftBy y s x)) q (go x)
@@ -64,12 +65,12 @@ record-only m Malformed j k = λ p q. p ∙ sym q
 
 -- ---- the first record of a list
 
-module _ (n : ℕ) (x : Record) (l : List Record) (s : List ℕ) (p : ℕ) where
+module _ (n : ℕ) (x : Record) (l : List Record) (s : Lent) (p : ℕ) where
   pub applied-next : numberOn n s x ≡ 0 → applied n (x ∷ l) s p ≡ applied n l (leftBy n s x) (suc p)
   unfolding applied
   applied-next z = rw z
 
-  applied-here : ¬ (numberOn n s x ≡ 0) → applied n (x ∷ l) s p ≡ record { number = numberOn n s x; place = p; words = s }
+  applied-here : ¬ (numberOn n s x ≡ 0) → applied n (x ∷ l) s p ≡ record { number = numberOn n s x; place = p; left = s }
   unfolding applied
   applied-here = decided-old (numberOn n s x) _ _
 
@@ -80,8 +81,8 @@ module _ (n : ℕ) (x : Record) (l : List Record) (s : List ℕ) (p : ℕ) where
 
 -- ---- no record is refused
 
-pub applied-taken : (n : ℕ) (l : List Record) (m : Model) (s : List ℕ) (p : ℕ) → Modelled m s → m .vertices ≡ n → applied n l s p .number ≡ 0
-    → (m′ : Model) × Taken m l m′ × Modelled m′ (applied n l s p .words) × (m′ .vertices ≡ n)
+pub applied-taken : (n : ℕ) (l : List Record) (m : Model) (s : Lent) (p : ℕ) → Modelled m s → m .vertices ≡ n → applied n l s p .number ≡ 0
+    → (m′ : Model) × Taken m l m′ × Modelled m′ (applied n l s p .left) × (m′ .vertices ≡ n)
 unfolding applied Taken
 applied-taken n [] m s p h q z = (m, refl, h, q)
 applied-taken n (x ∷ l) m s p h q z =
@@ -90,7 +91,7 @@ applied-taken n (x ∷ l) m s p h q z =
     let r = applied-taken n l (recordEffect m x) (leftBy n s x) (suc p) (record-left n m s h q x k) (record-vertices m x ∙ q) (rw e at z) in
     (r .0, (subst (RecordNumber m x) k (record-number n m s h q x), r .1), rw e (r .2), r .3)
 
-pub applied-place : (n : ℕ) (l : List Record) (s : List ℕ) (p : ℕ) → applied n l s p .number ≡ 0 → applied n l s p .place ≡ 0
+pub applied-place : (n : ℕ) (l : List Record) (s : Lent) (p : ℕ) → applied n l s p .number ≡ 0 → applied n l s p .place ≡ 0
 unfolding applied
 applied-place n [] s p z = refl
 applied-place n (x ∷ l) s p z =
@@ -98,11 +99,11 @@ applied-place n (x ∷ l) s p z =
 
 -- ---- the edits of the records
 
-record-after : (n : ℕ) (x : Record) (es : List Edit) (s : List ℕ) → after (recordEdits n x ++ es) s ≡ after es (leftBy n s x)
+record-after : (n : ℕ) (x : Record) (es : List Edit) (s : Lent) → after (recordEdits n x ++ es) s ≡ after es (leftBy n s x)
 unfolding after
 record-after n x es s = elim x [ Insert u v ↦ refl | Delete u v ↦ refl | Malformed ↦ refl ]
 
-record-answers : (n : ℕ) (x : Record) (es : List Edit) (s : List ℕ) (l : List Record) → numberOn n s x ≡ 0 → Accepted l (answers es (leftBy n s x))
+record-answers : (n : ℕ) (x : Record) (es : List Edit) (s : Lent) (l : List Record) → numberOn n s x ≡ 0 → Accepted l (answers es (leftBy n s x))
     → Accepted (x ∷ l) (answers (recordEdits n x ++ es) s)
 unfolding answers numberOn
 record-answers n (Insert u v) es s l z a = ap₂ _∷_ z a
@@ -110,8 +111,8 @@ record-answers n (Delete u v) es s l z a = ap₂ _∷_ z a
 record-answers n Malformed es s l z a = absurd (omega arith)
 
 -- records of which none is refused leave what their edits leave, and each has an edit, which is accepted
-pub applied-after : (n : ℕ) (l : List Record) (s : List ℕ) (p : ℕ) → applied n l s p .number ≡ 0
-    → (applied n l s p .words ≡ after (edits n l) s) × Accepted l (answers (edits n l) s)
+pub applied-after : (n : ℕ) (l : List Record) (s : Lent) (p : ℕ) → applied n l s p .number ≡ 0
+    → (applied n l s p .left ≡ after (edits n l) s) × Accepted l (answers (edits n l) s)
 unfolding applied edits after answers
 applied-after n [] s p z = (refl, refl)
 applied-after n (x ∷ l) s p z =
@@ -142,7 +143,7 @@ stops-later m x l k p f o = record {
 }
 
 -- the place counts on from the first record's
-stops-from : (n : ℕ) (l : List Record) (m : Model) (s : List ℕ) (p : ℕ) → Modelled m s → m .vertices ≡ n → ¬ (applied n l s (suc p) .number ≡ 0)
+stops-from : (n : ℕ) (l : List Record) (m : Model) (s : Lent) (p : ℕ) → Modelled m s → m .vertices ≡ n → ¬ (applied n l s (suc p) .number ≡ 0)
     → (i : ℕ) × (applied n l s (suc p) .place ≡ p + i) × Stops m l (applied n l s (suc p) .number) i
 unfolding applied
 stops-from n [] m s p h q d = absurd (d refl)
@@ -156,7 +157,7 @@ stops-from n (x ∷ l) m s p h q d =
           rw e (suc (r .0), omega (arith, r .1), stops-later m x l _ (r .0) (subst (RecordNumber m x) k f) (r .2))
     ]
 
-pub applied-stops : (n : ℕ) (l : List Record) (m : Model) (s : List ℕ) → Modelled m s → m .vertices ≡ n → ¬ (applied n l s 1 .number ≡ 0)
+pub applied-stops : (n : ℕ) (l : List Record) (m : Model) (s : Lent) → Modelled m s → m .vertices ≡ n → ¬ (applied n l s 1 .number ≡ 0)
     → Stops m l (applied n l s 1 .number) (applied n l s 1 .place)
 applied-stops n l m s h q d =
     let r = stops-from n l m s 0 h q d in

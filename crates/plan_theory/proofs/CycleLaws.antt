@@ -1,44 +1,46 @@
 -- Which insertions of one edge close a cycle by the model, and which lists of records stop at one. Assumes nothing.
 use mathlib.Core.Path.{_≡_, refl, sym, subst}
-use mathlib.Core.Logic.{inl}
+use mathlib.Core.Logic.{inl, inr}
 use mathlib.Core.Bool.{true, false}
 use mathlib.Core.List.{List, _∷_, _++_}
 use Prim.Native.Nat.{ℕ, suc, _≤_}
+use native.Mathlib.Nat.{lt-of-not-le}
 use native.Mathlib.Omega.{arith}
 use lib.ListN.{length}
 use Rattle.record.specs.declared.Record.{Record}
 use Rattle.record.specs.declared.Record.the-variants.{Insert, Delete, Malformed}
 use Rattle.answer.specs.Table.{First}
 use Rattle.sheet_theory.specs.Conditions.{BadVertices}
-use Rattle.answer.proofs.TableLaws.{first-other, first-last}
+use Rattle.answer.proofs.ByNumber.{first-not, first-holds, first-absent}
 use Rattle.edit_theory.specs.Edit.{insertEdge, deleteEdge}
 use Rattle.edit_theory.specs.Book.{Model}
 use Rattle.edit_theory.specs.Table.{mostParallel}
 use Rattle.edit_theory.specs.Model.{modelConditions}
 use Rattle.edit_theory.proofs.NamedLaws.{some-one}
 use Rattle.plan_theory.specs.Taken.{RecordNumber, Stops, Closing, ClosesAt}
-use Rattle.edit_theory.proofs.MayLaws.{edge-effects, insert-first}
+use Rattle.edit_theory.proofs.MayLaws.{insert-first}
 use Rattle.plan_theory.proofs.AppliedLaws.{taken-vertices}
 
 module _ (m : Model) (u v : ℕ) where
   insert-closing : First (modelConditions m (insertEdge (m .vertices) u v)) 8 → Closing (m .vertices) m u v
   insert-closing f =
-      let a = edge-effects m u v true 8 (omega arith) f in
-      let b = first-other (λ e. omega (arith, e)) (a .2) in
-      let c = first-other (λ e. omega (arith, e)) (b .1) in
+      let cs = modelConditions m (insertEdge (m .vertices) u v) in
+      let not = first-not cs 8 f in
+      let from = lt-of-not-le (λ l. not 3 refl (inl l)) in
+      let to = lt-of-not-le (λ l. not 3 refl (inr l)) in
       record {
-        from = a .0;
-        to = a .1;
-        apart = λ e. b .0 (some-one (m .vertices) u v (λ i j. i ≡ j) (a .0) (a .1) .1 e);
-        new = λ e. c .0 (some-one (m .vertices) u v (λ i j. mostParallel ≤ m .edge i j) (a .0) (a .1) .1 e);
-        cycle = first-last (c .1) .0 refl;
+        from = from;
+        to = to;
+        apart = λ e. not 5 refl (some-one (m .vertices) u v (λ i j. i ≡ j) from to .1 e);
+        new = λ e. not 6 refl (some-one (m .vertices) u v (λ i j. mostParallel ≤ m .edge i j) from to .1 e);
+        cycle = first-holds cs 8 f refl;
       }
 
   closing-insert : ¬ (BadVertices (m .vertices)) → Closing (m .vertices) m u v → First (modelConditions m (insertEdge (m .vertices) u v)) 8
   closing-insert few c = insert-first m u v few (c .from) (c .to) (c .apart) (c .new) 8 (inl (c .cycle, refl))
 
   delete-never : ¬ (First (modelConditions m (deleteEdge (m .vertices) u v)) 8)
-  delete-never f = omega (arith, first-other (λ e. omega (arith, e)) (edge-effects m u v false 8 (omega arith) f .2) .1)
+  delete-never f = first-absent (modelConditions m (deleteEdge (m .vertices) u v)) 8 f refl
 
 -- ---- lists of records
 

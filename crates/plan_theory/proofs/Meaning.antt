@@ -14,6 +14,7 @@ use Rattle.answer.specs.declared.Answer.{Answer}
 use Rattle.answer.specs.Table.{_gives_, First}
 use Rattle.answer.specs.Answers.{answer, decided}
 use Rattle.sheet_theory.specs.Layout.{Shape, setBits}
+use Rattle.sheet_theory.specs.Lent.{Lent, Lends}
 use Rattle.sheet_theory.specs.Valid.{Valid}
 use Rattle.answer.proofs.TableLaws.{first-only, first-iff, first-past, first-last, first-accepts}
 use Rattle.answer.proofs.AnswerLaws.{decided-old, answer-ext}
@@ -36,7 +37,7 @@ use Rattle.plan_theory.proofs.CycleLaws.{stops-closes, closes-stops}
 
 -- ---- read_plan
 
-module _ (n : ℕ) (s plan : List ℕ) (r : Answer) (t : List ℕ) (h : ReadPlan n s plan r t) where
+module _ (n : ℕ) (s : Lent) (plan : List ℕ) (r : Answer) (t : Lent) (h : ReadPlan n s plan r t) where
   -- what the checks before the first record find, decides
   found : (k : ℕ) → First (readConditions n s plan) k → r ≡ readAnswer n s plan k
   found k f =
@@ -70,7 +71,7 @@ module _ (n : ℕ) (s plan : List ℕ) (r : Answer) (t : List ℕ) (h : ReadPlan
       let v = accepted-valid n s (BadPlan plan gives 13 ∷ []) f in
       let p = appliedPlan n s plan in
       let none : p .number ≡ 0 = sym (ap (λ (x : Answer). x .number) (found 0 f)) ∙ z in
-      let words : t ≡ p .words = h .leaves ∙ ap (λ (k : ℕ). decided k (p .words) s) z in
+      let words : t ≡ p .left = h .leaves ∙ ap (λ (k : ℕ). decided k (p .left) s) z in
       let a = applied-after n (records plan) s 1 none in
       let b = applied-taken n (records plan) (opened n s) s 1 (valid-modelled v) refl none in
       let w = whole-list n s (record { reply = answer 0 0 1; validated = valid-validates n s v; one = refl }) (edits n (records plan)) in
@@ -84,10 +85,10 @@ module _ (n : ℕ) (s plan : List ℕ) (r : Answer) (t : List ℕ) (h : ReadPlan
         taken = b .1;
         run = subst (λ x. Run (opened n s) (edits n (records plan)) x (b .0)) (w .only (q .0) (b .0) (q .1) .0) (q .1);
         fresh = subst (Fresh (b .0)) (sym words) (b .2 .fresh);
-        validAfter = subst (Valid n) (sym words) (subst (λ x. Valid x (p .words)) (b .3) (modelled-valid (b .2)));
+        validAfter = subst (Valid n) (sym words) (subst (λ x. Valid x (p .left)) (b .3) (modelled-valid (b .2)));
         answered = found 0 f
-            ∙ ap₂ (λ (k q : ℕ). answer k q (decided k (setBits n (p .words)) 0)) none (applied-place n (records plan) s 1 none)
-            ∙ ap (λ (x : List ℕ). answer 0 0 (setBits n x)) (sym words);
+            ∙ ap₂ (λ (k q : ℕ). answer k q (decided k (setBits n (p .left .words)) 0)) none (applied-place n (records plan) s 1 none)
+            ∙ ap (λ (x : Lent). answer 0 0 (setBits n (x .words))) (sym words);
       }
 
   module _ (f : First (readConditions n s plan) 0) where
@@ -141,13 +142,13 @@ module _ (n : ℕ) (s plan : List ℕ) (r : Answer) (t : List ℕ) (h : ReadPlan
   )
 
 -- the contract leaves nothing open: it fixes the answer and every word
-pub read-only : (n : ℕ) (s plan : List ℕ) (r r′ : Answer) (t t′ : List ℕ) → ReadPlan n s plan r t → ReadPlan n s plan r′ t′ → (r ≡ r′) × (t ≡ t′)
+pub read-only : (n : ℕ) (s : Lent) (plan : List ℕ) (r r′ : Answer) (t t′ : Lent) → ReadPlan n s plan r t → ReadPlan n s plan r′ t′ → (r ≡ r′) × (t ≡ t′)
 read-only n s plan r r′ t t′ h h′ =
     let e = h .answers ∙ sym (found n s plan r′ t′ h′ (h .k) (h .first)) in
     (e, h .leaves ∙ ap (readAfter n s plan) e ∙ sym (h′ .leaves))
 
 -- the empty plan is accepted on every valid sheet, and changes nothing
-pub read-empty : (n : ℕ) (s : List ℕ) (r : Answer) (t : List ℕ) → Valid n s → ReadPlan n s [] r t → (r ≡ answer 0 0 (setBits n s)) × (t ≡ s)
+pub read-empty : (n : ℕ) (s : Lent) (r : Answer) (t : Lent) → Valid n s → ReadPlan n s [] r t → (r ≡ answer 0 0 (setBits n (s .words))) × (t ≡ s)
 unfolding gather applied
 read-empty n s r t v h =
     let few : ¬ (BadPlan []) = λ c. elim c [ inl d ↦ d refl | inr l ↦ omega (arith, l) ] in
@@ -155,14 +156,14 @@ read-empty n s r t v h =
     (e, h .leaves ∙ ap (λ (x : Answer). decided (x .number) s s) e)
 
 -- 9 comes before 13: a sheet that is not valid is refused by 9, whatever the plan, the empty one too
-pub read-not-valid : (n : ℕ) (s plan : List ℕ) (r : Answer) (t : List ℕ) → Shape n s → ¬ (Valid n s) → ReadPlan n s plan r t → (r ≡ answer 9 0 0) × (t ≡ s)
+pub read-not-valid : (n : ℕ) (s : Lent) (plan : List ℕ) (r : Answer) (t : Lent) → Lends n s → ¬ (Valid n s) → ReadPlan n s plan r t → (r ≡ answer 9 0 0) × (t ≡ s)
 read-not-valid n s plan r t h d read =
     let e = read-early n s plan r t read 9 (λ z. omega (arith, z)) (valid-refused n s h d (BadPlan plan gives 13 ∷ [])) in
     (e, read-refused n s plan r t read (λ z. omega (arith, z, ap (λ (x : Answer). x .number) e)) .0)
 
 -- ---- write_plan
 
-module _ (n : ℕ) (s p : List ℕ) (r : Answer) (q : List ℕ) (h : WritePlan n s p r q) where
+module _ (n : ℕ) (s : Lent) (p : List ℕ) (r : Answer) (q : List ℕ) (h : WritePlan n s p r q) where
   -- its number is that of the first condition that holds, and 0 exactly if none does
   pub write-table : (k : ℕ) → (r .number ≡ k) ↔ First (writeConditions n s (length p)) k
   write-table k = first-iff (writeConditions n s (length p)) (r .number) k (h .number)
@@ -172,7 +173,7 @@ module _ (n : ℕ) (s p : List ℕ) (r : Answer) (q : List ℕ) (h : WritePlan n
   write-refused d = (h .bytes ∙ decided-old (r .number) (written (planOf n s) p) p d, h .value ∙ decided-old (r .number) (length (planOf n s)) 0 d)
 
   -- 9 comes before 10: a sheet that is not valid is refused by 9, whatever the buffer
-  pub write-not-valid : Shape n s → ¬ (Valid n s) → (r ≡ answer 9 0 0) × (q ≡ p)
+  pub write-not-valid : Lends n s → ¬ (Valid n s) → (r ≡ answer 9 0 0) × (q ≡ p)
   write-not-valid shape d =
       let e = write-table 9 .1 (valid-refused n s shape d (ShortBuffer n s (length p) gives 10 ∷ [])) in
       let f = write-refused (λ z. omega (arith, z, e)) in
@@ -185,7 +186,7 @@ module _ (n : ℕ) (s p : List ℕ) (r : Answer) (q : List ℕ) (h : WritePlan n
       let e = plan-length n s v in
       let fits = first-accepts f in
       let short = first-last f in (
-        (λ z. let g = fits .0 z in elim (decLt (length p) (8 * setBits n s)) [ yes l ↦ absurd (g l) | no l ↦ omega arith ], λ l. fits .1 (λ m. omega (arith, m))),
+        (λ z. let g = fits .0 z in elim (decLt (length p) (8 * setBits n (s .words))) [ yes l ↦ absurd (g l) | no l ↦ omega arith ], λ l. fits .1 (λ m. omega (arith, m))),
         (λ z. omega (arith, short .0 z), λ l. short .1 (omega arith)),
       )
 

@@ -13,6 +13,7 @@ use Rattle.graph.proofs.AscendingLaws.{gather-ascending, ascending-distinct, as
 use Rattle.record.specs.declared.Record.{Record}
 use Rattle.record.specs.declared.Record.the-variants.{Insert}
 use Rattle.sheet_theory.specs.Layout.{rowAt}
+use Rattle.sheet_theory.specs.Lent.{Lent}
 use Rattle.plan_theory.specs.PlanOf.{edgeInsert, rowInserts, edgeRecords, edgeOf, Lower}
 use Rattle.plan_theory.proofs.PlanOfLaws.{said-of}
 
@@ -31,21 +32,21 @@ said-ascending true x = (λ y m. absurd m, tt)
 said-ascending false x = tt
 
 -- those of the edges from i
-row-ascending : (n : ℕ) (s : List ℕ) (i : ℕ) → Ascending Lower (rowInserts n s i)
+row-ascending : (n : ℕ) (s : Lent) (i : ℕ) → Ascending Lower (rowInserts n s i)
 unfolding edgeOf
 row-ascending n s i =
-    gather-ascending Lower n (edgeInsert s i) (λ j hj. said-ascending (hasBit (rowAt s i) j) (Insert i j))
+    gather-ascending Lower n (edgeInsert s i) (λ j hj. said-ascending (hasBit (rowAt (s .words) i) j) (Insert i j))
     (λ j k x y h p q.
     let ex = said-of s i j x p .0 in
     let ey = said-of s i k y q .0 in
     inr (ap from ex ∙ sym (ap from ey), omega (arith, h, ap to ex, ap to ey)))
 
-row-from : (n : ℕ) (s : List ℕ) (i : ℕ) (x : Record) → x isIn rowInserts n s i → from x ≡ i
+row-from : (n : ℕ) (s : Lent) (i : ℕ) (x : Record) → x isIn rowInserts n s i → from x ≡ i
 unfolding edgeOf
 row-from n s i x m = let q = gather-of n (edgeInsert s i) x m in ap from (said-of s i (q .0) x (q .2) .0)
 
 -- all of them
-pub edge-records-ascending : (n : ℕ) (s : List ℕ) → Ascending Lower (edgeRecords n s)
+pub edge-records-ascending : (n : ℕ) (s : Lent) → Ascending Lower (edgeRecords n s)
 unfolding edgeRecords
 edge-records-ascending n s =
     gather-ascending Lower n (rowInserts n s) (λ i hi. row-ascending n s i)
@@ -56,10 +57,10 @@ edge-records-ascending n s =
 lower-asym : (x y : Record) → Lower x y → ¬ (Lower y x)
 lower-asym x y = edge-asym (edgeOf x) (edgeOf y)
 
-pub edge-records-distinct : (n : ℕ) (s : List ℕ) → Distinct (edgeRecords n s)
+pub edge-records-distinct : (n : ℕ) (s : Lent) → Distinct (edgeRecords n s)
 edge-records-distinct n s = ascending-distinct Lower lower-asym (edgeRecords n s) (edge-records-ascending n s)
 
 -- ---- and no other list of these records ascends
 
-pub edge-records-only : (n : ℕ) (s : List ℕ) (l : List Record) → Ascending Lower l → ((x : Record) → (x isIn l) ↔ (x isIn edgeRecords n s)) → l ≡ edgeRecords n s
+pub edge-records-only : (n : ℕ) (s : Lent) (l : List Record) → Ascending Lower l → ((x : Record) → (x isIn l) ↔ (x isIn edgeRecords n s)) → l ≡ edgeRecords n s
 edge-records-only n s l a e = ascending-only Lower lower-asym l (edgeRecords n s) a (edge-records-ascending n s) e

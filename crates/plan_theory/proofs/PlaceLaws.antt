@@ -10,25 +10,18 @@ use Rattle.record.specs.declared.Record.the-variants.{Insert, Delete, Malformed
 use Rattle.record.specs.Record.{OfForm}
 use Rattle.record.proofs.RecordLaws.{malformed-iff}
 use Rattle.answer.specs.Table.{First}
-use Rattle.answer.proofs.TableLaws.{first-other}
+use Rattle.answer.proofs.ByNumber.{first-absent}
 use Rattle.edit_theory.specs.Edit.{one, edgeEdit}
-use Rattle.edit_theory.specs.Table.{mostParallel, Grounds, effects}
 use Rattle.edit_theory.specs.Book.{Model}
 use Rattle.edit_theory.specs.Model.{modelConditions}
 use Rattle.plan_theory.specs.Records.{records}
 use Rattle.plan_theory.specs.Taken.{RecordNumber, Stops}
 use Rattle.plan_theory.proofs.RecordsLaws.{records-split}
-use Rattle.edit_theory.proofs.MayLaws.{edge-effects}
 
 -- no edit of one edge has this number
 edit-never : (m : Model) (inserts : Bool) (u v : ℕ) → ¬ (First (modelConditions m (edgeEdit inserts (m .vertices) u v)) 14)
-edit-never m inserts u v f =
-    effect-never inserts _ (edge-effects m u v inserts 14 (omega arith) f .2)
-  where
-    effect-never : (b : Bool) (grounds : Grounds) → ¬ (First (effects b (m .vertices) mostParallel (one u v) m grounds) 14)
-    effect-never true grounds h =
-        omega (arith, first-other (λ e. omega (arith, e)) (first-other (λ e. omega (arith, e)) (first-other (λ e. omega (arith, e)) h .1) .1) .1)
-    effect-never false grounds h = omega (arith, first-other (λ e. omega (arith, e)) h .1)
+edit-never m true u v f = first-absent (modelConditions m (edgeEdit true (m .vertices) u v)) 14 f refl
+edit-never m false u v f = first-absent (modelConditions m (edgeEdit false (m .vertices) u v)) 14 f refl
 
 -- the 8 bytes at the place where 14 stops are not of the form
 pub stops-malformed : (m : Model) (plan : List ℕ) (p : ℕ) → Stops m (records plan) 14 p

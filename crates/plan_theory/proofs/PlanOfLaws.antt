@@ -22,6 +22,7 @@ use Rattle.record.specs.declared.Record.the-variants.{Insert}
 use Rattle.record.specs.Record.{insertLetter, encoded, decoded}
 use Rattle.record.proofs.RecordLaws.{decoded-encoded}
 use Rattle.sheet_theory.specs.Layout.{rowAt, edgeAt, setBits}
+use Rattle.sheet_theory.specs.Lent.{Lent}
 use Rattle.sheet_theory.specs.Valid.{Valid}
 use Rattle.sheet_theory.proofs.Meaning.{valid-edges-le}
 use Rattle.edit_theory.specs.Edit.{oneIf}
@@ -34,32 +35,32 @@ use Rattle.plan_theory.specs.Calls.{mostBytes}
 use Rattle.plan_theory.proofs.RecordsLaws.{firstRecords, records-first}
 
 -- what is written is determined by the edges
-pub plan-edges : (n : ℕ) (s t : List ℕ) → ((i j : ℕ) → i < n → j < n → edgeAt s i j ≡ edgeAt t i j) → planOf n s ≡ planOf n t
+pub plan-edges : (n : ℕ) (s t : Lent) → ((i j : ℕ) → i < n → j < n → edgeAt (s .words) i j ≡ edgeAt (t .words) i j) → planOf n s ≡ planOf n t
 unfolding edgeBytes
 plan-edges n s t h =
     gather-cong n _ _ (λ i hi. gather-cong n _ _ (λ j hj. rw (h i j hi hj)))
 
 -- ---- the edges of a sheet as records
 
-said-length : (s : List ℕ) (i j : ℕ) → length (edgeInsert s i j) ≡ oneIf (ltb 0 (edgeAt s i j))
-said-length s i j = elim (bit-cases (rowAt s i) j) [ inl e ↦ rw e | inr e ↦ rw e ]
+said-length : (s : Lent) (i j : ℕ) → length (edgeInsert s i j) ≡ oneIf (ltb 0 (edgeAt (s .words) i j))
+said-length s i j = elim (bit-cases (rowAt (s .words) i) j) [ inl e ↦ rw e | inr e ↦ rw e ]
 
 -- they are as many as the edges
-edge-records-length : (n : ℕ) (s : List ℕ) → length (edgeRecords n s) ≡ edgeCount (opened n s)
+edge-records-length : (n : ℕ) (s : Lent) → length (edgeRecords n s) ≡ edgeCount (opened n s)
 unfolding edgeRecords
 edge-records-length n s =
     gather-length n (rowInserts n s) ∙ sum-cong n _ _ (λ i hi. gather-length n (edgeInsert s i) ∙ sum-cong n _ _ (λ j hj. said-length s i j))
 
 -- each of them is an edge
-pub said-of : (s : List ℕ) (i j : ℕ) (x : Record) → x isIn edgeInsert s i j → (x ≡ Insert i j) × (edgeAt s i j ≡ 1)
+pub said-of : (s : Lent) (i j : ℕ) (x : Record) → x isIn edgeInsert s i j → (x ≡ Insert i j) × (edgeAt (s .words) i j ≡ 1)
 said-of s i j x m =
-    elim (bit-cases (rowAt s i) j) [
+    elim (bit-cases (rowAt (s .words) i) j) [
       | inl e ↦ absurd (rw e at m)
       | inr e ↦ elim (rw e at m) [ inl q ↦ (q, e) | inr q ↦ absurd q ]
     ]
 
-pub edge-records-of : (n : ℕ) (s : List ℕ) (x : Record) → x isIn edgeRecords n s
-    → (i : ℕ) × (i < n) × (j : ℕ) × (j < n) × (x ≡ Insert i j) × (edgeAt s i j ≡ 1)
+pub edge-records-of : (n : ℕ) (s : Lent) (x : Record) → x isIn edgeRecords n s
+    → (i : ℕ) × (i < n) × (j : ℕ) × (j < n) × (x ≡ Insert i j) × (edgeAt (s .words) i j ≡ 1)
 unfolding edgeRecords
 edge-records-of n s x m =
     let r = gather-of n (rowInserts n s) x m in
@@ -72,16 +73,16 @@ unfolding edgeOf
 insert-only u v i j e = (ap (λ (x : Record). edgeOf x .0) e, ap (λ (x : Record). edgeOf x .1) e)
 
 -- and each edge is one of them
-said-in : (s : List ℕ) (i j : ℕ) → edgeAt s i j ≡ 1 → Insert i j isIn edgeInsert s i j
+said-in : (s : Lent) (i j : ℕ) → edgeAt (s .words) i j ≡ 1 → Insert i j isIn edgeInsert s i j
 said-in s i j e = rw e (inl refl)
 
-pub edge-records-iff : (n : ℕ) (s : List ℕ) (i j : ℕ) → i < n → j < n → (Insert i j isIn edgeRecords n s) ↔ (edgeAt s i j ≡ 1)
+pub edge-records-iff : (n : ℕ) (s : Lent) (i j : ℕ) → i < n → j < n → (Insert i j isIn edgeRecords n s) ↔ (edgeAt (s .words) i j ≡ 1)
 unfolding edgeRecords
 edge-records-iff n s i j hi hj = (
   λ m.
       let r = edge-records-of n s (Insert i j) m in
       let q = insert-only i j (r .0) (r .2) (r .4) in
-      ap₂ (λ (x y : ℕ). edgeAt s x y) (q .0) (q .1) ∙ r .5,
+      ap₂ (λ (x y : ℕ). edgeAt (s .words) x y) (q .0) (q .1) ∙ r .5,
   λ e. gather-in n (rowInserts n s) (Insert i j) i hi (gather-in n (edgeInsert s i) (Insert i j) j hj (said-in s i j e)),
 )
 
@@ -124,23 +125,23 @@ unfolding firstRecords
 coded-edge true i j hi hj = record { long = refl; said = ap (λ (x : Record). x ∷ []) (decoded-encoded insertLetter i j hi hj) }
 coded-edge false i j hi hj = coded-none
 
-plan-coded : (n : ℕ) (s : List ℕ) → n ≤ 64 → Coded (planOf n s) (edgeRecords n s)
+plan-coded : (n : ℕ) (s : Lent) → n ≤ 64 → Coded (planOf n s) (edgeRecords n s)
 unfolding edgeBytes edgeRecords
-plan-coded n s h = coded-gather n _ _ (λ i hi. coded-gather n _ _ (λ j hj. coded-edge (hasBit (rowAt s i) j) i j (omega arith) (omega arith)))
+plan-coded n s h = coded-gather n _ _ (λ i hi. coded-gather n _ _ (λ j hj. coded-edge (hasBit (rowAt (s .words) i) j) i j (omega arith) (omega arith)))
 
 -- ---- the plan is read as the edges, and is 8 bytes for each
 
-pub plan-records : (n : ℕ) (s : List ℕ) → n ≤ 64 → records (planOf n s) ≡ edgeRecords n s
+pub plan-records : (n : ℕ) (s : Lent) → n ≤ 64 → records (planOf n s) ≡ edgeRecords n s
 plan-records n s h =
     let c = plan-coded n s h in
     let e : length (planOf n s) / 8 ≡ length (edgeRecords n s) = omega (arith, c .long) in
     records-first (planOf n s) ∙ (ap (λ (m : ℕ). firstRecords m (planOf n s)) e ∙ c .said)
 
-pub plan-length : (n : ℕ) (s : List ℕ) → Valid n s → length (planOf n s) ≡ 8 * setBits n s
+pub plan-length : (n : ℕ) (s : Lent) → Valid n s → length (planOf n s) ≡ 8 * setBits n (s .words)
 plan-length n s v =
     let m = valid-modelled v in
     omega (arith, plan-coded n s (v .shape .high) .long, edge-records-length n s, fresh-value (m .high) (m .fresh))
 
 -- so it is of a length that is read
-pub plan-short : (n : ℕ) (s : List ℕ) → Valid n s → (length (planOf n s) ≤ mostBytes) × (length (planOf n s) % 8 ≡ 0)
+pub plan-short : (n : ℕ) (s : Lent) → Valid n s → (length (planOf n s) ≤ mostBytes) × (length (planOf n s) % 8 ≡ 0)
 plan-short n s v = (omega (arith, plan-length n s v, valid-edges-le n s v), omega (arith, plan-length n s v))

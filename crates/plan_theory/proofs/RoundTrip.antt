@@ -15,6 +15,7 @@ use Rattle.answer.specs.declared.Answer.{Answer}
 use Rattle.answer.specs.Table.{_gives_, First}
 use Rattle.answer.specs.Answers.{answer, decided}
 use Rattle.sheet_theory.specs.Layout.{edgeAt, setBits, emptySheet}
+use Rattle.sheet_theory.specs.Lent.{Lent, lent, multAt, emptyLent}
 use Rattle.sheet_theory.specs.Valid.{Valid}
 use Rattle.answer.proofs.TableLaws.{first-only}
 use Rattle.sheet_theory.proofs.ValidLaws.{edge-le, accepted-valid, valid-passed}
@@ -48,8 +49,8 @@ with-iff e u v i j =
 -- ---- insertions that are all accepted
 
 -- every record is accepted, and they leave s
-abbrev whole : List ℕ → Applied
-whole s = record { number = 0; place = 0; words = s }
+abbrev whole : Lent → Applied
+whole s = record { number = 0; place = 0; left = s }
 
 -- the model of n vertices and the edges e
 abbrev model : ℕ → (ℕ → ℕ → ℕ) → Model
@@ -57,15 +58,15 @@ model n e = record { vertices = n; edge = e }
 
 -- q has come through l, to the sheet of the edges e together with those that l inserts
 record Gained (n : ℕ) (e : ℕ → ℕ → ℕ) (l : List Record) (q : Applied) : Type 0 where
-  pub words : List ℕ
-  pub through : q ≡ whole words
+  pub left : Lent
+  pub through : q ≡ whole left
   pub edge : ℕ → ℕ → ℕ
-  pub modelled : Modelled (model n edge) words
+  pub modelled : Modelled (model n edge) left
   pub edges : (i j : ℕ) → (0 < edge i j) ↔ ((0 < e i j) ⊎ (Insert i j isIn l))
 
-gained-none : (n : ℕ) (e : ℕ → ℕ → ℕ) (s : List ℕ) → Modelled (model n e) s → Gained n e [] (whole s)
+gained-none : (n : ℕ) (e : ℕ → ℕ → ℕ) (s : Lent) → Modelled (model n e) s → Gained n e [] (whole s)
 gained-none n e s m = record {
-  words = s;
+  left = s;
   through = refl;
   edge = e;
   modelled = m;
@@ -74,7 +75,7 @@ gained-none n e s m = record {
 
 gained-more : (n : ℕ) (e : ℕ → ℕ → ℕ) (u v : ℕ) (l : List Record) (q : Applied) → Gained n (with true e u v) l q → Gained n e (Insert u v ∷ l) q
 gained-more n e u v l q g = record {
-  words = g .words;
+  left = g .left;
   through = g .through;
   edge = g .edge;
   modelled = g .modelled;
@@ -125,17 +126,17 @@ module _ (n : ℕ) (w : ℕ → ℕ → ℕ) where
         (λ q. no-loop u hu (rw (← q) at h)) (λ q. omega (arith, z, q)) 0
         (inr (λ c. acyclic (cycle-widen n (with true e u v) w (with-within e u v h within) c), refl))
 
-    new-accepted : (e : ℕ → ℕ → ℕ) (s : List ℕ) (u v : ℕ) → Modelled (model n e) s → Within e → New e (Insert u v)
+    new-accepted : (e : ℕ → ℕ → ℕ) (s : Lent) (u v : ℕ) → Modelled (model n e) s → Within e → New e (Insert u v)
         → (numberOn n s (Insert u v) ≡ 0) × Modelled (model n (with true e u v)) (leftBy n s (Insert u v))
     unfolding numberOn
     new-accepted e s u v m within h =
         let x : Edit = insertEdge n u v in
         let f = new-passes e u v (m .low) (m .high) within h in
         let z : editNumber x s ≡ 0 = first-only (modelConditions (model n e) x) (editNumber x s) 0 (number-first (model n e) s m x) f in
-        (z, subst (Modelled (model n (with true e u v))) (sym (ap (λ (k : ℕ). decided k (editWords x s) s) z)) (accepted-modelled (model n e) s m x f .1))
+        (z, subst (Modelled (model n (with true e u v))) (sym (ap (λ (k : ℕ). decided k (lent (editWords x s)) s) z)) (accepted-modelled (model n e) s m x f .1))
 
     -- records that insert edges of w, each once and none of them there, are all accepted
-    inserts-applied : (l : List Record) (e : ℕ → ℕ → ℕ) (s : List ℕ) (p : ℕ) → Distinct l → ((x : Record) → x isIn l → New e x)
+    inserts-applied : (l : List Record) (e : ℕ → ℕ → ℕ) (s : Lent) (p : ℕ) → Distinct l → ((x : Record) → x isIn l → New e x)
         → Within e → Modelled (model n e) s → Gained n e l (applied n l s p)
     unfolding applied
     inserts-applied [] e s p d new within m = gained-none n e s m
@@ -151,28 +152,28 @@ module _ (n : ℕ) (w : ℕ → ℕ → ℕ) where
 
 -- ---- the plan of a valid sheet, read into the empty one
 
-module _ (n : ℕ) (s : List ℕ) (valid : Valid n s) where
-  empty-good : Valid n (emptySheet n)
+module _ (n : ℕ) (s : Lent) (valid : Valid n s) where
+  empty-good : Valid n (emptyLent n)
   empty-good = empty-valid n (valid .shape .low) (valid .shape .high)
 
   -- its edges: none
   abbrev none : ℕ → ℕ → ℕ
-  none = edgeAt (emptySheet n)
+  none = multAt n (emptyLent n)
 
   -- each record of the plan inserts an edge of s that is not there yet
-  plan-new : (x : Record) → x isIn edgeRecords n s → New n (edgeAt s) none x
+  plan-new : (x : Record) → x isIn edgeRecords n s → New n (edgeAt (s .words)) none x
   plan-new x m =
       let r = edge-records-of n s x m in
       rw (r .4) (r .1, r .3, omega (arith, r .5), empty-edge n (r .0) (r .2) (r .1) (r .3))
 
-  plan-gained : Gained n none (edgeRecords n s) (appliedPlan n (emptySheet n) (planOf n s))
+  plan-gained : Gained n none (edgeRecords n s) (appliedPlan n (emptyLent n) (planOf n s))
   plan-gained =
-      subst (λ l. Gained n none (edgeRecords n s) (applied n l (emptySheet n) 1)) (sym (plan-records n s (valid .shape .high)))
-      (inserts-applied n (edgeAt s) (valid .acyclic) (edgeRecords n s) none (emptySheet n) 1 (edge-records-distinct n s) plan-new
+      subst (λ l. Gained n none (edgeRecords n s) (applied n l (emptyLent n) 1)) (sym (plan-records n s (valid .shape .high)))
+      (inserts-applied n (edgeAt (s .words)) (valid .acyclic) (edgeRecords n s) none (emptyLent n) 1 (edge-records-distinct n s) plan-new
       (λ i j hi hj p. absurd (omega (arith, p, empty-edge n i j hi hj))) (valid-modelled empty-good))
 
   -- so its edges are those of s, and it is s
-  gained-iff : (i j : ℕ) → i < n → j < n → (0 < plan-gained .edge i j) ↔ (edgeAt s i j ≡ 1)
+  gained-iff : (i j : ℕ) → i < n → j < n → (0 < plan-gained .edge i j) ↔ (edgeAt (s .words) i j ≡ 1)
   gained-iff i j hi hj =
       let p = plan-gained .edges i j in
       let q = edge-records-iff n s i j hi hj in (
@@ -180,37 +181,37 @@ module _ (n : ℕ) (s : List ℕ) (valid : Valid n s) where
         λ h. p .1 (inr (q .1 h)),
       )
 
-  gained-edge : (i j : ℕ) → i < n → j < n → plan-gained .edge i j ≡ edgeAt s i j
+  gained-edge : (i j : ℕ) → i < n → j < n → plan-gained .edge i j ≡ edgeAt (s .words) i j
   gained-edge i j hi hj =
       let p = gained-iff i j hi hj in
       let one = modelled-edge (plan-gained .modelled) i j hi hj in
-      elim (ℕ-discrete (edgeAt s i j) 1) [
+      elim (ℕ-discrete (edgeAt (s .words) i j) 1) [
         | yes e ↦ omega (arith, p .1 e)
-        | no d ↦ let c : 0 < plan-gained .edge i j → ⊥ = λ h. d (p .0 h) in omega (arith, edge-le s i j)
+        | no d ↦ let c : 0 < plan-gained .edge i j → ⊥ = λ h. d (p .0 h) in omega (arith, edge-le (s .words) i j)
       ]
 
-  plan-applied : appliedPlan n (emptySheet n) (planOf n s) ≡ whole s
+  plan-applied : appliedPlan n (emptyLent n) (planOf n s) ≡ whole s
   plan-applied =
       plan-gained .through
-      ∙ ap whole (fresh-only n (plan-gained .edge) (edgeAt s) _ s gained-edge (plan-gained .modelled .fresh) (valid-modelled valid .fresh))
+      ∙ ap whole (fresh-only n (plan-gained .edge) (edgeAt (s .words)) _ s gained-edge (plan-gained .modelled .fresh) (valid-modelled valid .fresh))
 
-  plan-passed : First (readConditions n (emptySheet n) (planOf n s)) 0
+  plan-passed : First (readConditions n (emptyLent n) (planOf n s)) 0
   plan-passed =
       let q = plan-short n s valid in
-      valid-passed n (emptySheet n) empty-good (BadPlan (planOf n s) gives 13 ∷ []) 0
+      valid-passed n (emptyLent n) empty-good (BadPlan (planOf n s) gives 13 ∷ []) 0
       (inr (λ c. elim c [ inl d ↦ d (q .1) | inr l ↦ omega (arith, q .0) ], refl))
 
   -- THE THEOREM: reading what was written of a valid sheet into the empty sheet of as many vertices gives that sheet, word for word
-  pub round-trip : (r : Answer) (t : List ℕ) → ReadPlan n (emptySheet n) (planOf n s) r t → (r ≡ answer 0 0 (setBits n s)) × (t ≡ s)
+  pub round-trip : (r : Answer) (t : Lent) → ReadPlan n (emptyLent n) (planOf n s) r t → (r ≡ answer 0 0 (setBits n (s .words))) × (t ≡ s)
   round-trip r t h =
-      let z = first-only (readConditions n (emptySheet n) (planOf n s)) (h .k) 0 (h .first) plan-passed in
-      let e : r ≡ answer 0 0 (setBits n s)
+      let z = first-only (readConditions n (emptyLent n) (planOf n s)) (h .k) 0 (h .first) plan-passed in
+      let e : r ≡ answer 0 0 (setBits n (s .words))
       = h .answers ∙ ap₂ (λ (k : ℕ) (q : Applied). decided k (appliedAnswer n q) (answer k 0 0)) z plan-applied in
-      (e, h .leaves ∙ ap₂ (λ (x : Answer) (q : Applied). decided (x .number) (q .words) (emptySheet n)) e plan-applied)
+      (e, h .leaves ∙ ap₂ (λ (x : Answer) (q : Applied). decided (x .number) (q .left) (emptyLent n)) e plan-applied)
 
 -- and so by the two calls: what write_plan has written, read_plan reads into the empty sheet
-pub round-trip-buffer : (n : ℕ) (s p : List ℕ) (r : Answer) (q : List ℕ) → WritePlan n s p r q → r .number ≡ 0
-    → (r′ : Answer) (t : List ℕ) → ReadPlan n (emptySheet n) (take (r .value) q) r′ t → (r′ ≡ answer 0 0 (setBits n s)) × (t ≡ s)
+pub round-trip-buffer : (n : ℕ) (s : Lent) (p : List ℕ) (r : Answer) (q : List ℕ) → WritePlan n s p r q → r .number ≡ 0
+    → (r′ : Answer) (t : Lent) → ReadPlan n (emptyLent n) (take (r .value) q) r′ t → (r′ ≡ answer 0 0 (setBits n (s .words))) × (t ≡ s)
 round-trip-buffer n s p r q h z r′ t g =
     let v = accepted-valid n s (ShortBuffer n s (length p) gives 10 ∷ []) (rw z at (h .number)) in
     round-trip n s v r′ t (rw (write-taken n s p r q h z) at g)

@@ -7,6 +7,7 @@ use Rattle.record.specs.declared.Record.{Record}
 use Rattle.answer.specs.declared.Answer.{Answer}
 use Rattle.answer.specs.Answers.{answer}
 use Rattle.sheet_theory.specs.Layout.{setBits}
+use Rattle.sheet_theory.specs.Lent.{Lent}
 use Rattle.sheet_theory.specs.Valid.{Valid}
 use Rattle.edit_theory.specs.Book.{Model, opened}
 use Rattle.edit_theory.specs.Model.{Fresh}
@@ -20,7 +21,7 @@ abbrev pub Accepted : List Record → List Answer → Type 0
 Accepted l rs = map (λ (r : Answer). r .number) rs ≡ replicate (length l) 0
 
 -- the plan is accepted on the sheet s of n vertices, with the answer r, and leaves t
-pub record AcceptedPlan (n : ℕ) (s plan : List ℕ) (r : Answer) (t : List ℕ) : Type 0 where
+pub record AcceptedPlan (n : ℕ) (s : Lent) (plan : List ℕ) (r : Answer) (t : Lent) : Type 0 where
   -- it is a list of edits, one for each record, applied one after the other to a valid sheet and all accepted; so what is said of whole lists
   -- of edits (demand 3) is said of plans
   pub validBefore : Valid n s
@@ -34,4 +35,4 @@ pub record AcceptedPlan (n : ℕ) (s plan : List ℕ) (r : Answer) (t : List ℕ
   pub fresh : Fresh model t
   pub validAfter : Valid n t
   -- the value is the number of set bits in all rows
-  pub answered : r ≡ answer 0 0 (setBits n t)
+  pub answered : r ≡ answer 0 0 (setBits n (t .words))

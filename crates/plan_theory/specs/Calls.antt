@@ -11,7 +11,8 @@ use Rattle.answer.specs.declared.Answer.{Answer}
 use Rattle.answer.specs.Table.{_gives_, Conditions, First, firstTrue}
 use Rattle.answer.specs.Answers.{answer, decided}
 use Rattle.sheet_theory.specs.Layout.{setBits}
-use Rattle.sheet_theory.specs.Valid.{validConditions}
+use Rattle.sheet_theory.specs.Lent.{Lent}
+use Rattle.sheet_theory.specs.Valid.{validConditions, alteringValid}
 use Rattle.plan_theory.specs.Records.{records, Applied, applied}
 use Rattle.plan_theory.specs.PlanOf.{planOf}
 
@@ -30,26 +31,26 @@ unfoldable pub lengthNumber : ℕ → ℕ
 lengthNumber bytes = firstTrue ((not (eqb (bytes % 8) 0) || ltb mostBytes bytes) gives 13 ∷ [])
 
 -- what is looked for before the first record
-abbrev pub readConditions : ℕ → List ℕ → List ℕ → Conditions
-readConditions n s plan = validConditions n s (BadPlan plan gives 13 ∷ [])
+abbrev pub readConditions : ℕ → Lent → List ℕ → Conditions
+readConditions n s plan = alteringValid n s (BadPlan plan gives 13 ∷ [])
 
 -- how far the records come, the first of them at the place 1
-abbrev pub appliedPlan : ℕ → List ℕ → List ℕ → Applied
+abbrev pub appliedPlan : ℕ → Lent → List ℕ → Applied
 appliedPlan n s plan = applied n (records plan) s 1
 
 -- what the records answer: the number and the place of the first that is refused, or the set bits of all rows after the last
 abbrev pub appliedAnswer : ℕ → Applied → Answer
-appliedAnswer n p = answer (p .number) (p .place) (decided (p .number) (setBits n (p .words)) 0)
+appliedAnswer n p = answer (p .number) (p .place) (decided (p .number) (setBits n (p .left .words)) 0)
 
 -- what read_plan answers, where k is what is found before the first record; and what it leaves, where r is what it answers
-abbrev pub readAnswer : ℕ → List ℕ → List ℕ → ℕ → Answer
+abbrev pub readAnswer : ℕ → Lent → List ℕ → ℕ → Answer
 readAnswer n s plan k = decided k (appliedAnswer n (appliedPlan n s plan)) (answer k 0 0)
 
-abbrev pub readAfter : ℕ → List ℕ → List ℕ → Answer → List ℕ
-readAfter n s plan r = decided (r .number) (appliedPlan n s plan .words) s
+abbrev pub readAfter : ℕ → Lent → List ℕ → Answer → Lent
+readAfter n s plan r = decided (r .number) (appliedPlan n s plan .left) s
 
 -- read_plan answers r and turns s into t
-pub record ReadPlan (n : ℕ) (s plan : List ℕ) (r : Answer) (t : List ℕ) : Type 0 where
+pub record ReadPlan (n : ℕ) (s : Lent) (plan : List ℕ) (r : Answer) (t : Lent) : Type 0 where
   pub k : ℕ
   pub first : First (readConditions n s plan) k
   pub answers : r ≡ readAnswer n s plan k
@@ -58,14 +59,14 @@ pub record ReadPlan (n : ℕ) (s plan : List ℕ) (r : Answer) (t : List ℕ) : 
 -- ---- write_plan: the edges of a sheet as a plan
 
 -- 10: len bytes are under 8 an edge
-abbrev pub ShortBuffer : ℕ → List ℕ → ℕ → Type 0
-ShortBuffer n s len = len < 8 * setBits n s
+abbrev pub ShortBuffer : ℕ → Lent → ℕ → Type 0
+ShortBuffer n s len = len < 8 * setBits n (s .words)
 
-abbrev pub writeConditions : ℕ → List ℕ → ℕ → Conditions
+abbrev pub writeConditions : ℕ → Lent → ℕ → Conditions
 writeConditions n s len = validConditions n s (ShortBuffer n s len gives 10 ∷ [])
 
 -- write_plan answers r and turns the buffer p into q
-pub record WritePlan (n : ℕ) (s p : List ℕ) (r : Answer) (q : List ℕ) : Type 0 where
+pub record WritePlan (n : ℕ) (s : Lent) (p : List ℕ) (r : Answer) (q : List ℕ) : Type 0 where
   pub number : First (writeConditions n s (length p)) (r .number)
   pub place : r .place ≡ 0
   pub value : r .value ≡ decided (r .number) (length (planOf n s)) 0

@@ -10,29 +10,30 @@ use Rattle.record.specs.declared.Record.{Record}
 use Rattle.record.specs.declared.Record.the-variants.{Insert, Delete, Malformed}
 use Rattle.record.specs.Record.{insertLetter, encoded}
 use Rattle.sheet_theory.specs.Layout.{rowAt}
+use Rattle.sheet_theory.specs.Lent.{Lent}
 
 -- x for the edge from i to j, if there is one, else nothing
-abbrev pub ifEdge : {A : Type 0} → List ℕ → ℕ → ℕ → List A → List A
-ifEdge s i j x = cond (hasBit (rowAt s i) j) x []
+abbrev pub ifEdge : {A : Type 0} → Lent → ℕ → ℕ → List A → List A
+ifEdge s i j x = cond (hasBit (rowAt (s .words) i) j) x []
 
 -- the record of the edge from i to j, those of the edges from i, and those of all edges
-abbrev pub edgeInsert : List ℕ → ℕ → ℕ → List Record
+abbrev pub edgeInsert : Lent → ℕ → ℕ → List Record
 edgeInsert s i j = ifEdge s i j (Insert i j ∷ [])
 
-abbrev pub rowInserts : ℕ → List ℕ → ℕ → List Record
+abbrev pub rowInserts : ℕ → Lent → ℕ → List Record
 rowInserts n s i = gather n (edgeInsert s i)
 
-unfoldable pub edgeRecords : ℕ → List ℕ → List Record
+unfoldable pub edgeRecords : ℕ → Lent → List Record
 edgeRecords n s = gather n (rowInserts n s)
 
 -- the same in bytes
-unfoldable pub edgeBytes : List ℕ → ℕ → ℕ → List ℕ
+unfoldable pub edgeBytes : Lent → ℕ → ℕ → List ℕ
 edgeBytes s i j = ifEdge s i j (encoded insertLetter i j)
 
-abbrev pub rowBytes : ℕ → List ℕ → ℕ → List ℕ
+abbrev pub rowBytes : ℕ → Lent → ℕ → List ℕ
 rowBytes n s i = gather n (edgeBytes s i)
 
-abbrev pub planOf : ℕ → List ℕ → List ℕ
+abbrev pub planOf : ℕ → Lent → List ℕ
 planOf n s = gather n (rowBytes n s)
 
 -- ---- ascending

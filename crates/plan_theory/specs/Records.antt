@@ -8,6 +8,7 @@ use Rattle.record.specs.declared.Record.the-variants.{Insert, Delete, Malformed
 use Rattle.record.specs.Record.{recordNumber}
 use Rattle.record.specs.Reader.{recordAt}
 use Rattle.answer.specs.Answers.{decided}
+use Rattle.sheet_theory.specs.Lent.{Lent}
 use Rattle.edit_theory.specs.Edit.{Edit, insertEdge, deleteEdge}
 use Rattle.edit_theory.specs.Outcome.{editAnswer, editAfter}
 
@@ -34,23 +35,23 @@ edits n (x ∷ l) = recordEdits n x ++ edits n l
 -- ---- one record on a sheet s of n vertices
 
 -- the number by which it is refused, and 0 if it is not: that of its form, and of a record of the form that of its edit
-unfoldable pub numberOn : ℕ → List ℕ → Record → ℕ
+unfoldable pub numberOn : ℕ → Lent → Record → ℕ
 numberOn n s x = decided (recordNumber x) (byEdit n (λ e. editAnswer e s .number) 0 x) (recordNumber x)
 
 -- what it leaves of s
-abbrev pub leftBy : ℕ → List ℕ → Record → List ℕ
+abbrev pub leftBy : ℕ → Lent → Record → Lent
 leftBy n s = byEdit n (λ e. editAfter e s) s
 
 -- ---- records one after the other
 
--- how far a list of records has come: the number and the place of the record that is refused, and 0 and 0 if none is; and the words that
--- those before it have left
+-- how far a list of records has come: the number and the place of the record that is refused, and 0 and 0 if none is; and what those
+-- before it have left
 pub record Applied : Type 0 where
   pub number : ℕ
   pub place : ℕ
-  pub words : List ℕ
+  pub left : Lent
 
 -- the records l on s, up to the first that is refused; the first of them has the place p
-unfoldable pub applied : ℕ → List Record → List ℕ → ℕ → Applied
-applied n [] s p = record { number = 0; place = 0; words = s }
-applied n (x ∷ l) s p = decided (numberOn n s x) (applied n l (leftBy n s x) (suc p)) (record { number = numberOn n s x; place = p; words = s })
+unfoldable pub applied : ℕ → List Record → Lent → ℕ → Applied
+applied n [] s p = record { number = 0; place = 0; left = s }
+applied n (x ∷ l) s p = decided (numberOn n s x) (applied n l (leftBy n s x) (suc p)) (record { number = numberOn n s x; place = p; left = s })
