@@ -2,6 +2,7 @@
 // declares what this file exports; a slice crosses as a pointer and a number of words or bytes.
 ghost use mathlib.Core.Path.{_≡_};
 ghost use lib.ListN.{length};
+ghost use Rattle.sheet_theory.specs.Lent.{lent};
 ghost use Rattle.sheet_theory.specs.Calls.{emptyAnswer, emptyAfter, pathCountAnswer};
 ghost use Rattle.recount_theory.specs.Calls.{Recount, Validate};
 ghost use Rattle.edit_theory.specs.Edit.{insertEdge, deleteEdge, insertEdgesAt, deleteEdgesAt};
@@ -15,8 +16,8 @@ use sheet::Answer;
 // The empty sheet of n vertices, whatever the words were. Refused by 1, 2. The value is 0.
 #[no_mangle]
 pub extern "C" fn lugloquat_empty(n: usize, sheet: &mut [u64]) -> Answer
-    ensures answer { λ r. ⌜ r ≡ emptyAnswer n (now (sheet .entry)) ⌝ }
-    ensures words { λ r. ⌜ now (sheet .exit) ≡ emptyAfter n (now (sheet .entry)) ⌝ }
+    ensures answer { λ r. ⌜ r ≡ emptyAnswer n (lent (now (sheet .entry))) ⌝ }
+    ensures words { λ r. ⌜ lent (now (sheet .exit)) ≡ emptyAfter n (lent (now (sheet .entry))) ⌝ }
 {
     sheet::empty(n, sheet)
 }
@@ -30,8 +31,8 @@ pub extern "C" fn lugloquat_insert_edge(
     from: usize,
     to: usize,
 ) -> Answer
-    ensures answer { λ r. ⌜ r ≡ editAnswer (insertEdge n from to) (now (sheet .entry)) ⌝ }
-    ensures words { λ r. ⌜ now (sheet .exit) ≡ editAfter (insertEdge n from to) (now (sheet .entry)) ⌝ }
+    ensures answer { λ r. ⌜ r ≡ editAnswer (insertEdge n from to) (lent (now (sheet .entry))) ⌝ }
+    ensures words { λ r. ⌜ lent (now (sheet .exit)) ≡ editAfter (insertEdge n from to) (lent (now (sheet .entry))) ⌝ }
 {
     edit::insert_edge(n, sheet, from, to)
 }
@@ -45,8 +46,8 @@ pub extern "C" fn lugloquat_delete_edge(
     from: usize,
     to: usize,
 ) -> Answer
-    ensures answer { λ r. ⌜ r ≡ editAnswer (deleteEdge n from to) (now (sheet .entry)) ⌝ }
-    ensures words { λ r. ⌜ now (sheet .exit) ≡ editAfter (deleteEdge n from to) (now (sheet .entry)) ⌝ }
+    ensures answer { λ r. ⌜ r ≡ editAnswer (deleteEdge n from to) (lent (now (sheet .entry))) ⌝ }
+    ensures words { λ r. ⌜ lent (now (sheet .exit)) ≡ editAfter (deleteEdge n from to) (lent (now (sheet .entry))) ⌝ }
 {
     edit::delete_edge(n, sheet, from, to)
 }
@@ -61,8 +62,8 @@ pub extern "C" fn lugloquat_insert_edges_at(
     predecessors: u64,
     successors: u64,
 ) -> Answer
-    ensures answer { λ r. ⌜ r ≡ editAnswer (insertEdgesAt n v predecessors successors) (now (sheet .entry)) ⌝ }
-    ensures words { λ r. ⌜ now (sheet .exit) ≡ editAfter (insertEdgesAt n v predecessors successors) (now (sheet .entry)) ⌝ }
+    ensures answer { λ r. ⌜ r ≡ editAnswer (insertEdgesAt n v predecessors successors) (lent (now (sheet .entry))) ⌝ }
+    ensures words { λ r. ⌜ lent (now (sheet .exit)) ≡ editAfter (insertEdgesAt n v predecessors successors) (lent (now (sheet .entry))) ⌝ }
 {
     edit::insert_edges_at(n, sheet, v, predecessors, successors)
 }
@@ -77,8 +78,8 @@ pub extern "C" fn lugloquat_delete_edges_at(
     predecessors: u64,
     successors: u64,
 ) -> Answer
-    ensures answer { λ r. ⌜ r ≡ editAnswer (deleteEdgesAt n v predecessors successors) (now (sheet .entry)) ⌝ }
-    ensures words { λ r. ⌜ now (sheet .exit) ≡ editAfter (deleteEdgesAt n v predecessors successors) (now (sheet .entry)) ⌝ }
+    ensures answer { λ r. ⌜ r ≡ editAnswer (deleteEdgesAt n v predecessors successors) (lent (now (sheet .entry))) ⌝ }
+    ensures words { λ r. ⌜ lent (now (sheet .exit)) ≡ editAfter (deleteEdgesAt n v predecessors successors) (lent (now (sheet .entry))) ⌝ }
 {
     edit::delete_edges_at(n, sheet, v, predecessors, successors)
 }
@@ -86,7 +87,7 @@ pub extern "C" fn lugloquat_delete_edges_at(
 // The count from one vertex to another as it stands in the sheet. Refused by 1, 2, 3. The value is the count.
 #[no_mangle]
 pub extern "C" fn lugloquat_path_count(n: usize, sheet: &[u64], from: usize, to: usize) -> Answer
-    ensures answer { λ r. ⌜ r ≡ pathCountAnswer n (now (sheet .entry)) from to ⌝ }
+    ensures answer { λ r. ⌜ r ≡ pathCountAnswer n (lent (now (sheet .entry))) from to ⌝ }
 {
     sheet::path_count(n, sheet, from, to)
 }
@@ -102,7 +103,7 @@ pub extern "C" fn lugloquat_reaches_without(
     edge_from: usize,
     edge_to: usize,
 ) -> Answer
-    ensures answer { λ r. ⌜ r ≡ reachesWithoutAnswer n (now (sheet .entry)) from to «edge_from» «edge_to» ⌝ }
+    ensures answer { λ r. ⌜ r ≡ reachesWithoutAnswer n (lent (now (sheet .entry))) from to «edge_from» «edge_to» ⌝ }
 {
     query::reaches_without(n, sheet, from, to, edge_from, edge_to)
 }
@@ -118,8 +119,8 @@ pub extern "C" fn lugloquat_unrank(
     k: u64,
     path: &mut [u8],
 ) -> Answer
-    ensures answer { λ r. ⌜ r ≡ unrankAnswer n (now (sheet .entry)) from to k (length (now (path .entry))) ⌝ }
-    ensures bytes { λ r. ⌜ now (path .exit) ≡ unrankAfter n (now (sheet .entry)) from to k (now (path .entry)) ⌝ }
+    ensures answer { λ r. ⌜ r ≡ unrankAnswer n (lent (now (sheet .entry))) from to k (length (now (path .entry))) ⌝ }
+    ensures bytes { λ r. ⌜ now (path .exit) ≡ unrankAfter n (lent (now (sheet .entry))) from to k (now (path .entry)) ⌝ }
 {
     query::unrank(n, sheet, from, to, k, path)
 }
@@ -127,7 +128,7 @@ pub extern "C" fn lugloquat_unrank(
 // The counts passed over on a path, one byte a vertex, added up. Refused by 1, 2, 3, 12. The value is that sum.
 #[no_mangle]
 pub extern "C" fn lugloquat_rank(n: usize, sheet: &[u64], path: &[u8]) -> Answer
-    ensures answer { λ r. ⌜ r ≡ rankAnswer n (now (sheet .entry)) (now (path .entry)) ⌝ }
+    ensures answer { λ r. ⌜ r ≡ rankAnswer n (lent (now (sheet .entry))) (now (path .entry)) ⌝ }
 {
     query::rank(n, sheet, path)
 }
@@ -137,7 +138,7 @@ pub extern "C" fn lugloquat_rank(n: usize, sheet: &[u64], path: &[u8]) -> Answer
 // bits in all rows afterwards.
 #[no_mangle]
 pub extern "C" fn lugloquat_read_plan(n: usize, sheet: &mut [u64], plan: &[u8]) -> Answer
-    ensures read { λ r. ⌜ ReadPlan n (now (sheet .entry)) (now (plan .entry)) r (now (sheet .exit)) ⌝ }
+    ensures read { λ r. ⌜ ReadPlan n (lent (now (sheet .entry))) (now (plan .entry)) r (lent (now (sheet .exit))) ⌝ }
 {
     plan::read_plan(n, sheet, plan)
 }
@@ -146,7 +147,7 @@ pub extern "C" fn lugloquat_read_plan(n: usize, sheet: &mut [u64], plan: &[u8]) 
 // The value is the number of bytes written.
 #[no_mangle]
 pub extern "C" fn lugloquat_write_plan(n: usize, sheet: &[u64], plan: &mut [u8]) -> Answer
-    ensures written { λ r. ⌜ WritePlan n (now (sheet .entry)) (now (plan .entry)) r (now (plan .exit)) ⌝ }
+    ensures written { λ r. ⌜ WritePlan n (lent (now (sheet .entry))) (now (plan .entry)) r (now (plan .exit)) ⌝ }
 {
     plan::write_plan(n, sheet, plan)
 }
@@ -154,7 +155,7 @@ pub extern "C" fn lugloquat_write_plan(n: usize, sheet: &[u64], plan: &mut [u8])
 // The counts worked out afresh from the rows. Refused by 1, 2, 4, 8. The value is the number of set bits in all rows.
 #[no_mangle]
 pub extern "C" fn lugloquat_recount(n: usize, sheet: &mut [u64]) -> Answer
-    ensures recounted { λ r. ⌜ Recount n (now (sheet .entry)) r (now (sheet .exit)) ⌝ }
+    ensures recounted { λ r. ⌜ Recount n (lent (now (sheet .entry))) r (lent (now (sheet .exit))) ⌝ }
 {
     recount::recount(n, sheet)
 }
@@ -162,7 +163,7 @@ pub extern "C" fn lugloquat_recount(n: usize, sheet: &mut [u64]) -> Answer
 // Whether the sheet is valid, whoever wrote it. Refused by 1, 2. The value is 1 or 0.
 #[no_mangle]
 pub extern "C" fn lugloquat_validate(n: usize, sheet: &[u64]) -> Answer
-    ensures tested { λ r. ⌜ Validate n (now (sheet .entry)) r ⌝ }
+    ensures tested { λ r. ⌜ Validate n (lent (now (sheet .entry))) r ⌝ }
 {
     recount::validate(n, sheet)
 }
