@@ -17,12 +17,12 @@ use Rattle.sums.specs.Sum.{sum, delta}
 use Rattle.sums.specs.Modulo.{Congruent}
 use Rattle.sums.proofs.ModuloLaws.{congruent-add, congruent-cancel}
 use Rattle.sums.proofs.SumLaws.{delta-refl, delta-diff, sum-cong}
-use Rattle.word.specs.Bit.{bit, withBit, Lowest, LowestCleared}
+use Rattle.word.specs.Bit.{bit, withBit}
 use Rattle.word.specs.Wrap.{plus, minus}
-use Rattle.word.proofs.BitLaws.{bit-cases, bit-set-same, bit-set-other, clear-below, bit-above-zero}
+use Rattle.word.proofs.BitLaws.{bit-cases, bit-set-same, bit-set-other, bit-above-zero}
 use Rattle.word.proofs.MaskLaws.{bit-and, bit-not, bit-low}
-use Rattle.word.proofs.WrapLaws.{minus-lt, minus-add, minus-congruent}
-use Rattle.word.proofs.CountLaws.{sum-no-bits, Taking, taking-start, taking-more, taking-done}
+use Rattle.word.proofs.WrapLaws.{minus-lt, minus-add, minus-congruent, Wraps}
+use Rattle.word.proofs.CountLaws.{sum-no-bits}
 use Rattle.answer.specs.Table.{Reflects}
 use Rattle.sheet_theory.specs.Layout.{Shape, size, rowAt, countAt, edgeAt}
 use Rattle.sheet.specs.Fill.{over}
@@ -53,10 +53,10 @@ unit-made = record {
 }
 
 module _ (op : ℕ → ℕ → ℕ) (i c : ℕ) (t : List ℕ) (long : length t ≡ 16) where
-  pub own-out : ((x : ℕ) → x < 2 ^ 64 → x ≡ op x 0) → (i < c) ⊎ (c + 16 ≤ i) → OwnBy op i c t t
-  own-out same out = record {
+  pub own-out : Wraps op → (i < c) ⊎ (c + 16 ≤ i) → OwnBy op i c t t
+  own-out wraps out = record {
     long = long;
-    each = λ j h small. rw (delta-diff i (c + j) (λ e. elim out [ inl q ↦ omega arith | inr q ↦ omega arith ])) (same (getD t j 0) small);
+    each = λ j h small. rw (delta-diff i (c + j) (λ e. elim out [ inl q ↦ omega arith | inr q ↦ omega arith ])) (wraps .none (getD t j 0) small);
   }
 
   pub own-in : (u r : List ℕ) (p : ℕ) → UnitWords u → i ≡ c + p → p < 16 → RowBy op 16 u (16 - p) t r → OwnBy op i c t r
@@ -78,42 +78,6 @@ place-found i c r hi hc hr e = record {
   inside = λ h. omega arith;
   outside = λ h. elim (decLt i c) [ yes q ↦ inl q | no q ↦ inr (omega arith) ];
 }
-
-pub plus-zero : (x : ℕ) → x < 2 ^ 64 → x ≡ plus x 0
-plus-zero x h = omega arith
-
-pub minus-zero : (x : ℕ) → x < 2 ^ 64 → x ≡ minus x 0
-minus-zero x h = minus-congruent x x 0 h (ap (λ y. y % 2 ^ 64) (omega arith))
-
--- ---- rows taken off a block, by the lowest bit of what is left of the mask
-
--- t has 16 words, and each is that of a with the counts to its column taken off from the vertices of the mask that are not in rest
-pub record BlockTaking (n : ℕ) (s : List ℕ) (mask c : ℕ) (a : List ℕ) (rest : ℕ) (t : List ℕ) : Type 0 where
-  pub below : rest < 2 ^ n
-  pub long : length t ≡ length a
-  pub taking : (j : ℕ) → j < 16 → getD a j 0 < 2 ^ 64 → Taking n mask rest (λ b. countAt n s b (c + j)) (getD a j 0) (getD t j 0)
-
-module _ (n : ℕ) (s : List ℕ) (mask c : ℕ) (a : List ℕ) where
-  pub taken-start : mask < 2 ^ n → BlockTaking n s mask c a mask a
-  taken-start h = record { below = h; long = refl; taking = λ j l q. taking-start n mask (λ b. countAt n s b (c + j)) (getD a j 0) h q }
-
-  pub taken-more : (t u : List ℕ) (rest b base r : ℕ) → length a ≡ 16 → BlockTaking n s mask c a rest t → Lowest rest b → RowBase n b base
-      → RowBy minus 16 s (base + c) t u → LowestCleared rest r → BlockTaking n s mask c a r u
-  taken-more t u rest b base r h was l at row er = record {
-    below = rw (er b l) (clear-below n rest b (was .below));
-    long = row .long ∙ was .long;
-    taking = λ j q small.
-        taking-more n mask (λ b. countAt n s b (c + j)) (getD a j 0) rest (getD t j 0) b (getD u j 0) r (was .taking j q small) l
-        (row .each j q (omega (arith, was .long)) ∙ ap (minus (getD t j 0)) (block-count n s b base c at j)) er;
-  }
-
-  pub taken-done : (t : List ℕ) (rest : ℕ) → BlockTaking n s mask c a rest t → rest ≡ 0 → RowsTaken n s mask c a t
-  taken-done t rest was e = record {
-    long = was .long;
-    each = λ j q small.
-        minus-congruent (getD t j 0) (getD a j 0) _ (was .taking j q small .small)
-        (taking-done n mask (λ b. countAt n s b (c + j)) (getD a j 0) rest (getD t j 0) (was .taking j q small) e);
-  }
 
 -- ---- the block that the recurrence gives, and its columns
 

@@ -11,7 +11,7 @@ use native.Mathlib.Numerals.{add-one}
 use native.Mathlib.Omega.{arith}
 use lib.ListN.{length, getD, set}
 use Rattle.word.specs.Bit.{bit, Lowest, LowestCleared}
-use Rattle.word.proofs.CountLaws.{Adding, adding-more, adding-done}
+use Rattle.word.proofs.VisitLaws.{Adding, adding-more, adding-done}
 use Rattle.graph.specs.Update.{fromSum, toSum}
 use Rattle.graph.proofs.Insertion.{from-cong}
 use Rattle.sheet_theory.specs.Layout.{Shape, countsFrom, rowAt, countAt}

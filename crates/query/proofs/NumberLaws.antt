@@ -2,15 +2,13 @@
 -- Assumes nothing.
 use mathlib.Core.Path.{_≡_, refl, sym, ap, _∙_}
 use mathlib.Core.List.{List, [], _∷_}
-use Prim.Native.Nat.{ℕ, suc, _+_, _-_, _*_, _%_, _^_, _≤_, _<_}
+use Prim.Native.Nat.{ℕ, suc, _+_, _-_, _%_, _^_, _≤_, _<_}
 use native.Mathlib.Nat.{zero-add}
 use native.Mathlib.Omega.{arith}
-use lib.Bits.{bitAnd, mask-lt}
+use lib.Bits.{bitAnd}
 use lib.ListN.{length, getD, drop}
-use Rattle.sums.proofs.SumLaws.{sum-cong}
 use Rattle.word.specs.Bit.{Lowest, LowestCleared}
-use Rattle.word.proofs.MaskLaws.{bit-below}
-use Rattle.word.proofs.CountLaws.{Adding, adding-start, adding-more, adding-done}
+use Rattle.word.proofs.VisitLaws.{Adding, adding-low, adding-more, adding-done}
 use Rattle.sheet_theory.specs.Layout.{rowAt, countAt, edgeAt}
 use Rattle.query_theory.specs.Number.{passed, passedOver, end}
 use Rattle.query_theory.specs.Rank.{pathNumber}
@@ -18,28 +16,21 @@ use Rattle.query.proofs.PathLaws.{drop-here, drop-both, drop-last}
 
 -- ---- pass_over: rest is what is left of the row's bits below b, x the sum so far
 
--- the vertices below b to which an edge runs from i, as a mask
-abbrev below : List ℕ → ℕ → ℕ → ℕ
-below s i b = bitAnd (rowAt s i) (2 ^ b - 1)
-
--- x and the counts to j from the vertices of rest make the sum
+-- x is the sum of the counts to j from the vertices that are gone from rest
 abbrev pub Passing : ℕ → List ℕ → ℕ → ℕ → ℕ → ℕ → ℕ → Type 0
-Passing n s j i b rest x = Adding b (below s i b) rest (λ a. countAt n s a j) x
+Passing n s j i b rest x = Adding b (rowAt s i) rest (λ a. countAt n s a j) x
 
 module _ (n : ℕ) (s : List ℕ) (j i b : ℕ) where
   pub passing-start : (y rest : ℕ) → y ≡ 2 ^ b - 1 → rest ≡ bitAnd (getD s i 0) y → Passing n s j i b rest 0
-  passing-start y rest ey er = rw (er, ey) (adding-start b (below s i b) (λ a. countAt n s a j) (mask-lt (rowAt s i) b))
+  passing-start y rest ey er = adding-low b (rowAt s i) (λ a. countAt n s a j) y rest ey er
 
   pub passing-more : (rest x a c y r : ℕ) → Passing n s j i b rest x → Lowest rest a → c ≡ countAt n s a j → y ≡ (x + c) % 2 ^ 64
       → LowestCleared rest r → Passing n s j i b r y
-  passing-more rest x a c y r was l ec ey er = adding-more b (below s i b) (λ a. countAt n s a j) rest x a y r was l (ey ∙ ap (λ z. (x + z) % 2 ^ 64) ec) er
+  passing-more rest x a c y r was l ec ey er = adding-more b (rowAt s i) (λ a. countAt n s a j) rest x a y r was l (ey ∙ ap (λ z. (x + z) % 2 ^ 64) ec) er
 
   pub passing-done : (rest x : ℕ) → Passing n s j i b rest x → rest ≡ 0 → x ≡ passed (edgeAt s) (countAt n s) j i b % 2 ^ 64
   unfolding passed
-  passing-done rest x was e =
-      adding-done b (below s i b) (λ a. countAt n s a j) rest x was e
-      ∙ ap (λ z. z % 2 ^ 64)
-      (sum-cong b _ _ (λ a h. ap (λ z. z * countAt n s a j) (bit-below (rowAt s i) b a h)))
+  passing-done rest x was e = adding-done b (rowAt s i) (λ a. countAt n s a j) rest x was e
 
 -- ---- path_number: j is the end, t the byte reached, x the sum so far
 

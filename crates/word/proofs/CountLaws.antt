@@ -1,6 +1,5 @@
--- The laws of sums over the bits of a word, of how many are set, of the lowest that is set, and of sums by the lowest, added up or taken off.
--- Assumes nothing.
-use mathlib.Core.Path.{_≡_, refl, sym, ap, ap₂, subst, _∙_}
+-- The laws of sums over the bits of a word, of how many are set, and of the lowest that is set. Assumes nothing.
+use mathlib.Core.Path.{_≡_, sym, ap, ap₂, subst, _∙_}
 use mathlib.Core.Logic.{inl, inr, ⊎-elim}
 use Prim.Native.Nat.{ℕ, zero, suc, _+_, _-_, _*_, _/_, _%_, _^_, _≤_, _<_}
 use native.Mathlib.Nat.{mod-lt, mod-eq-of-lt, add-comm, add-zero, zero-mul, one-mul, lt-of-lt-of-le}
@@ -11,15 +10,11 @@ use lib.Arith.{lt-one}
 use lib.Pow.{pow-pos, pow-mono, shr-lt, split, ones-lt}
 use lib.Count.{ones, ones-cat, ones-ones, trailingZeros, leadingZeros, leading-top}
 use Rattle.sums.specs.Sum.{sum, delta}
-use Rattle.sums.specs.Modulo.{Congruent}
-use Rattle.sums.proofs.ModuloLaws.{congruent-add, congruent-cancel}
 use Rattle.sums.proofs.SumLaws.{delta-refl, delta-diff, sum-cong, sum-add, sum-all-zero, sum-pick, sum-far, term-le}
 use Rattle.word.specs.Bit.{bit, withoutBit, bitCount, Lowest, Highest, LowestCleared}
-use Rattle.word.specs.Wrap.{minus}
-use Rattle.word.proofs.WrapLaws.{minus-lt, minus-add}
-use Rattle.word.proofs.BitLaws.{bit-lt, bit-cases, bit-zero, bit-half, bit-mod, bit-clear-same, bit-clear-other, clear-below, clear-lt, half-lt, bit-above-zero, bit-one-lt, bit-beyond}
+use Rattle.word.proofs.BitLaws.{bit-lt, bit-cases, bit-zero, bit-half, bit-mod, bit-clear-same, bit-clear-other, clear-lt, half-lt, bit-above-zero, bit-one-lt, bit-beyond}
 
--- ---- a sum over the set bits, where one bit is cleared, and where none is left
+-- ---- sums that differ in one term, and a sum over the set bits where there are none
 
 -- two functions that differ at j alone
 sum-differ : (n j c : ℕ) (f g : ℕ → ℕ) → j < n → g j ≡ f j + c → ((b : ℕ) → (b ≡ j → ⊥) → g b ≡ f b) → sum n g ≡ sum n f + c
@@ -32,12 +27,6 @@ sum-differ n j c f g jn e h =
           | yes q ↦ rw (q, delta-refl j, one-mul) e
           | no d ↦ rw (delta-diff b j d, zero-mul, add-zero) (h b d)
         ]
-
-sum-clear : (n x j : ℕ) (f : ℕ → ℕ) → j < n → sum n (λ b. bit x b * f b) ≡ sum n (λ b. bit (withoutBit x j) b * f b) + bit x j * f j
-sum-clear n x j f h =
-    sum-differ n j (bit x j * f j) (λ b. bit (withoutBit x j) b * f b) (λ b. bit x b * f b) h
-    (omega (arith, ap (λ y. y * f j) (bit-clear-same x j)))
-    (λ b d. ap (λ y. y * f b) (sym (bit-clear-other x j b d)))
 
 pub sum-no-bits : (n : ℕ) (f : ℕ → ℕ) → sum n (λ b. bit 0 b * f b) ≡ 0
 sum-no-bits n f = sum-all-zero n _ (λ b l. rw (bit-zero b) (zero-mul (f b)))
@@ -132,60 +121,3 @@ lowest-lt n x b l h = bit-one-lt n x b h (l .set)
 -- with its lowest bit cleared a number falls
 pub lowest-cleared-lt : (x b r : ℕ) → Lowest x b → LowestCleared x r → r < x
 lowest-cleared-lt x b r l e = rw (e b l) (clear-lt x b (l .set))
-
--- ---- a sum over the bits of a mask, by the lowest bit of what is left of it
-
--- x and the terms at the bits of rest, of which none is at n or above, add up to those at the bits of the mask, modulo 2 ^ 64
-pub record Adding (n mask rest : ℕ) (f : ℕ → ℕ) (x : ℕ) : Type 0 where
-  pub below : rest < 2 ^ n
-  pub small : x < 2 ^ 64
-  pub sums : Congruent (2 ^ 64) (x + sum n (λ b. bit rest b * f b)) (sum n (λ b. bit mask b * f b))
-
-module _ (n mask : ℕ) (f : ℕ → ℕ) where
-  pub adding-start : mask < 2 ^ n → Adding n mask mask f 0
-  adding-start h = record { below = h; small = omega arith; sums = omega arith }
-
-  pub adding-more : (rest x b y r : ℕ) → Adding n mask rest f x → Lowest rest b → y ≡ (x + f b) % 2 ^ 64 → LowestCleared rest r → Adding n mask r f y
-  adding-more rest x b y r was l e er =
-      let t : bit rest b * f b ≡ f b = ap (λ z. z * f b) (l .set) ∙ one-mul (f b) in
-      rw (er b l)
-      record {
-        below = clear-below n rest b (was .below);
-        small = omega arith;
-        sums = omega (arith, was .sums, sum-clear n rest b f (lowest-lt n rest b l (was .below)));
-      }
-
-  pub adding-done : (rest x : ℕ) → Adding n mask rest f x → rest ≡ 0 → x ≡ sum n (λ b. bit mask b * f b) % 2 ^ 64
-  adding-done rest x was e = omega (arith, was .small, was .sums, ap (λ r. sum n (λ b. bit r b * f b)) e ∙ sum-no-bits n f)
-
--- ---- the same terms taken off a word
-
--- x is the word a with the terms at the bits of the mask taken off that are not in rest, modulo 2 ^ 64
-pub record Taking (n mask rest : ℕ) (f : ℕ → ℕ) (a x : ℕ) : Type 0 where
-  pub below : rest < 2 ^ n
-  pub small : x < 2 ^ 64
-  pub sums : Congruent (2 ^ 64) (x + sum n (λ b. bit mask b * f b)) (a + sum n (λ b. bit rest b * f b))
-
-module _ (n mask : ℕ) (f : ℕ → ℕ) (a : ℕ) where
-  -- one term g less on both sides
-  less : (m x y g r q : ℕ) → Congruent (2 ^ 64) (x + m) (a + r) → Congruent (2 ^ 64) (y + g) x → r ≡ q + g → Congruent (2 ^ 64) (y + m) (a + q)
-  less m x y g r q was e er =
-      congruent-cancel (2 ^ 64) (y + m) (a + q) g
-      (ap (λ z. z % 2 ^ 64) (omega arith) ∙ congruent-add (2 ^ 64) (y + g) m x m e refl ∙ was ∙ ap (λ z. z % 2 ^ 64) (omega arith))
-
-  pub taking-start : mask < 2 ^ n → a < 2 ^ 64 → Taking n mask mask f a a
-  taking-start h q = record { below = h; small = q; sums = refl }
-
-  pub taking-more : (rest x b y r : ℕ) → Taking n mask rest f a x → Lowest rest b → y ≡ minus x (f b) → LowestCleared rest r → Taking n mask r f a y
-  taking-more rest x b y r was l e er =
-      let t : bit rest b * f b ≡ f b = ap (λ z. z * f b) (l .set) ∙ one-mul (f b) in
-      rw (er b l)
-      record {
-        below = clear-below n rest b (was .below);
-        small = rw e (minus-lt x (f b));
-        sums = less (sum n (λ b. bit mask b * f b)) x y (f b) (sum n (λ b. bit rest b * f b)) _ (was .sums) (ap (λ z. (z + f b) % 2 ^ 64) e ∙ minus-add x (f b))
-            (sum-clear n rest b f (lowest-lt n rest b l (was .below)) ∙ ap (λ z. sum n (λ k. bit (withoutBit rest b) k * f k) + z) t);
-      }
-
-  pub taking-done : (rest x : ℕ) → Taking n mask rest f a x → rest ≡ 0 → Congruent (2 ^ 64) (x + sum n (λ b. bit mask b * f b)) a
-  taking-done rest x was e = omega (arith, was .sums, ap (λ r. sum n (λ b. bit r b * f b)) e ∙ sum-no-bits n f)

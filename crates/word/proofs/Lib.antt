@@ -3,4 +3,5 @@ pub mod BitLaws
 pub mod MaskLaws
 pub mod CountLaws
 pub mod WrapLaws
+pub mod VisitLaws
 pub mod Examples

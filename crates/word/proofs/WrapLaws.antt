@@ -6,7 +6,7 @@ use native.Mathlib.Omega.{arith}
 use lib.Pow.{split}
 use Rattle.sums.specs.Modulo.{Congruent}
 use Rattle.sums.proofs.ModuloLaws.{congruent-add, congruent-product}
-use Rattle.word.specs.Wrap.{minus}
+use Rattle.word.specs.Wrap.{plus, minus}
 
 -- ---- the difference
 
@@ -27,6 +27,22 @@ minus-congruent r x y h e = omega arith
 -- so it is the only one that y added to wraps back to the word x
 pub minus-only : (r x y : ℕ) → r < 2 ^ 64 → (r + y) % 2 ^ 64 ≡ x → r ≡ minus x y
 minus-only r x y h e = minus-congruent r x y h (omega arith)
+
+-- ---- terms added to a word, or taken off it, one after the other
+
+-- op x y is the word x with y added, or taken off, modulo 2 ^ 64
+pub record Wraps (op : ℕ → ℕ → ℕ) : Type 0 where
+  pub none : (x : ℕ) → x < 2 ^ 64 → x ≡ op x 0
+  pub twice : (x y z : ℕ) → op (op x y) z ≡ op x (y + z)
+
+pub plus-wraps : Wraps plus
+plus-wraps = record { none = λ x h. omega arith; twice = λ x y z. omega arith }
+
+pub minus-wraps : Wraps minus
+minus-wraps = record {
+  none = λ x h. minus-congruent x x 0 h (omega arith);
+  twice = λ x y z. minus-congruent _ x (y + z) (minus-lt (minus x y) z) (omega (arith, minus-add (minus x y) z, minus-add x y));
+}
 
 -- ---- the product
 

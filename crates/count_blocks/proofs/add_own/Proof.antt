@@ -3,7 +3,8 @@
 use native.Mathlib.Omega.{arith}
 use borrow.Author.Needs.{needs}
 use Rattle.word.specs.Wrap.{plus}
-use Rattle.count_blocks.proofs.BlockLaws.{own-out, own-in, plus-zero}
+use Rattle.word.proofs.WrapLaws.{plus-wraps}
+use Rattle.count_blocks.proofs.BlockLaws.{own-out, own-in}
 use Rattle.count_blocks.proofs.add_own.Statement.{statement}
 use Rattle.count_blocks.proofs.add_own.Tie as tie
 
@@ -14,7 +15,7 @@ returns c =
     own-in plus (a .args .i) (a .args .c) _ (a .pre .3) _ _ _ (a .pre .0) (found .place-of .ensures .inside (omega arith)) (omega arith) (c .add-row .ensures)
 
 returns-2 : tie.Need-returns-2
-returns-2 c = own-out plus _ _ _ (c .before .before .pre .3) plus-zero (c .before .place-of .ensures .outside (omega arith))
+returns-2 c = own-out plus _ _ _ (c .before .before .pre .3) plus-wraps (c .before .place-of .ensures .outside (omega arith))
 
 pub add-own-spec : {M : Type 1} → statement M
 add-own-spec = tie.close (tie.spec (λ c κs. search needs) (λ c. omega arith) (λ c κs. omega arith) returns returns-2)

@@ -1,9 +1,10 @@
--- `edit_counts::sum_from` meets its contract: the sum so far and what is left of the mask make the sum for the whole mask. What is left
--- falls with each turn. Assumes nothing.
+-- `edit_counts::sum_from` meets its contract: the counts to the vertices that are gone from what is left of the mask are added up. What
+-- is left falls with each turn. Assumes nothing.
 use native.Mathlib.Omega.{arith}
 use borrow.Author.Needs.{needs}
 use borrow.Author.Tests.{eqb-true, eqb-false}
-use Rattle.word.proofs.CountLaws.{lowest-lt, lowest-cleared-lt, Adding, adding-start}
+use Rattle.word.proofs.CountLaws.{lowest-lt, lowest-cleared-lt}
+use Rattle.word.proofs.VisitLaws.{Adding, adding-start}
 use Rattle.sheet_theory.specs.Layout.{countAt}
 use Rattle.edit_counts.proofs.EditedCounts.{from-more, from-done}
 use Rattle.edit_counts.proofs.sum_from.Statement.{statement}

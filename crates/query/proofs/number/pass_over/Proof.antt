@@ -1,5 +1,5 @@
--- `query::number::pass_over` meets its contract: the sum so far and the counts from what is left of the mask make the sum. What is left
--- falls with each turn. Assumes nothing.
+-- `query::number::pass_over` meets its contract: the counts from the vertices that are gone from what is left of the row are added up.
+-- What is left falls with each turn. Assumes nothing.
 use native.Mathlib.Omega.{arith}
 use borrow.Author.Needs.{needs}
 use borrow.Author.Tests.{eqb-true, eqb-false}
