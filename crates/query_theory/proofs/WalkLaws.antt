@@ -10,7 +10,7 @@ use native.Mathlib.Omega.{arith}
 use borrow.Author.Tests.{ltb-true, ltb-false, eq-eqb, ne-eqb}
 use lib.Dec.{ltb}
 use Rattle.sums.specs.Sum.{sum}
-use Rattle.sums.proofs.SumLaws.{sum-longer, sum-far}
+use Rattle.sums.proofs.SumLaws.{sum-longer}
 use Rattle.query_theory.specs.Walk.{Turn, goes, passes, headed, tryEdge, tried, walked}
 use Rattle.query_theory.specs.Number.{passed}
 
@@ -40,18 +40,13 @@ module _ (n : ℕ) (w C : ℕ → ℕ → ℕ) (j : ℕ) where
 -- ---- the counts passed over from one vertex
 
 module _ (n : ℕ) (w C : ℕ → ℕ → ℕ) (j : ℕ) (one : (i a : ℕ) → w i a ≤ 1) where
-  passed-skip : (i b : ℕ) → w i b ≡ 0 → passed w C j i (suc b) ≡ passed w C j i b
+  pub passed-skip : (i b : ℕ) → w i b ≡ 0 → passed w C j i (suc b) ≡ passed w C j i b
   unfolding passed sum
   passed-skip i b z = rw (z, zero-mul (C b j)) (add-zero _)
 
   pub passed-next : (i b : ℕ) → 0 < w i b → passed w C j i (suc b) ≡ passed w C j i b + C b j
   unfolding passed sum
   passed-next i b h = let e : w i b ≡ 1 = omega (arith, one i b) in rw (e, one-mul (C b j))
-
-  -- where no edge runs to the vertices from c up to b, no count is passed over between them
-  pub passed-far : (i c b : ℕ) → c ≤ b → ((a : ℕ) → c ≤ a → a < b → w i a ≡ 0) → passed w C j i b ≡ passed w C j i c
-  unfolding passed
-  passed-far i c b h z = sum-far c b (λ a. w i a * C a j) h (λ a p q. rw (z a p q) (zero-mul (C a j)))
 
   passed-le : (i b c : ℕ) → b ≤ c → passed w C j i b ≤ passed w C j i c
   unfolding passed

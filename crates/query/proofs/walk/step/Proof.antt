@@ -23,7 +23,9 @@ returns : tie.Need-returns Inv-loop μ-loop
 returns c = search trying-goes
 
 returns-2 : tie.Need-returns-2 Inv-loop μ-loop
-returns-2 c = trying-passes _ _ _ _ _ _ _ (c .before .loop .inv) (omega (arith, eqb-true))
+returns-2 c =
+    let a = c .before .before .before .before .before .args in
+    trying-passes (a .n) (a .sheet .now) (a .to) (a .i) (a .k) _ _ (c .before .loop .inv) (omega (arith, eqb-true))
 
 lowest-bit-requires : tie.Need-lowest-bit-requires Inv-loop μ-loop
 lowest-bit-requires c κs = omega (arith, eqb-false)
@@ -31,7 +33,7 @@ lowest-bit-requires c κs = omega (arith, eqb-false)
 count-at-requires : tie.Need-count-at-requires Inv-loop μ-loop
 count-at-requires c κs =
     let start = c .before .before .before .before .before .before in
-    (start .pre .0, omega (arith, lowest-lt _ _ _ (c .lowest-bit .ensures) (c .before .before .loop .inv .small)), start .pre .2)
+    (start .pre .0, omega (arith, lowest-lt _ _ _ (c .lowest-bit .ensures) (c .before .before .loop .inv .below)), start .pre .2)
 
 loop-less : tie.Need-loop-less Inv-loop μ-loop
 loop-less c = search lowest-cleared-lt
