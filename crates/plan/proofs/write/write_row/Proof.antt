@@ -33,7 +33,7 @@ loop-again : tie.Need-loop-again Inv-loop μ-loop
 loop-again c = search writing-more
 
 same-length : tie.Need-same-length Inv-loop μ-loop
-same-length c = c .before .loop .inv .pieces .long
+same-length c = c .before .loop .inv .known .long
 
 returns : tie.Need-returns Inv-loop μ-loop
 returns c = writing-done _ _ _ _ _ _ _ _ (c .before .loop .inv) (omega (arith, eqb-true))
