@@ -2,24 +2,26 @@
 -- Assumes nothing.
 use mathlib.Core.Path.{_≡_, refl, sym, ap, _∙_}
 use mathlib.Core.Logic.{⊎-elim}
-use mathlib.Core.Bool.{Bool, true, false}
+use mathlib.Core.Bool.{Bool, true, false, _&&_}
 use mathlib.Core.List.{List}
-use Prim.Native.Nat.{ℕ, _+_, _-_, _^_, _<_}
+use Prim.Native.Nat.{ℕ, suc, _+_, _-_, _^_, _≤_, _<_}
+use native.Mathlib.Nat.{le-refl}
 use native.Mathlib.Decide.{ℕ-discrete}
 use native.Mathlib.Omega.{arith}
+use lib.Dec.{eqb}
 use lib.Bits.{bitAnd, bitOr}
 use lib.ListN.{length, getD, set, length-set}
 use lib.Seq.{getD-set-same, getD-set-other}
-use Rattle.word.proofs.CountLaws.{lowest-lt}
-use Rattle.word.specs.Bit.{bit, hasBit, withoutBit, Lowest, LowestCleared}
-use Rattle.word.proofs.BitLaws.{bit-cases, bit-clear-same, bit-clear-other, clear-below}
+use Rattle.word.specs.Bit.{bit, hasBit, Lowest, LowestCleared}
+use Rattle.word.proofs.BitLaws.{bit-cases}
+use Rattle.word.proofs.VisitLaws.{Visiting, Passes, visiting-start, visiting-more, visiting-done}
 use Rattle.word.proofs.MaskLaws.{bit-and, bit-or, bit-not}
 use Rattle.sheet_theory.specs.Layout.{size, rowAt, countAt, edgeAt}
 use Rattle.sheet_theory.proofs.LayoutLaws.{length-redone, row-redone, count-redone, rest-redone, redone-ext}
 use Rattle.edit_theory.specs.Edit.{namedAt, marked}
 use Rattle.edit_theory.specs.Outcome.{editedRow}
 use Rattle.edit.specs.Internal.{Marked, rowsEdited}
-use Rattle.edit_theory.proofs.EditedRow.{has-pow, named-none, named-other, named-both, bit-edited, edited-only, edited-lt, edited-none, edited-same}
+use Rattle.edit_theory.proofs.EditedRow.{has-pow, named-none, named-other, named-both, bit-edited, edited-only, edited-same}
 
 -- ---- a row with the bits of a mask set, or cleared
 
@@ -39,71 +41,51 @@ mark-cleared inserts row mask h e j l =
 
 -- ---- the rows of a mask, by the lowest bit of what is left of it
 
--- t is s with some rows of the mask done, so that those of rest done in t leave what those of the mask done in s do
-pub record Marking (inserts : Bool) (n : ℕ) (s : List ℕ) (v mask rest : ℕ) (t : List ℕ) : Type 0 where
+-- t is s with the rows of the mask below k done
+pub record Begun (inserts : Bool) (s : List ℕ) (v mask : ℕ) (t : List ℕ) (k : ℕ) : Type 0 where
   pub long : length t ≡ length s
-  pub below : rest < 2 ^ n
-  pub small : (i : ℕ) → i < n → rowAt t i < 2 ^ 64
-  pub left : rowsEdited inserts n t v rest 0 ≡ rowsEdited inserts n s v mask 0
+  pub done : (i : ℕ) → i < k → rowAt t i ≡ editedRow inserts s v mask 0 i
+  pub rest : (i : ℕ) → k ≤ i → getD t i 0 ≡ getD s i 0
+
+abbrev pub Marking : Bool → ℕ → List ℕ → ℕ → ℕ → ℕ → List ℕ → Type 0
+Marking inserts n s v mask rest t = Visiting n mask (Begun inserts s v mask t) rest
 
 module _ (inserts : Bool) (n : ℕ) (s : List ℕ) (v mask : ℕ) where
-  pub marking-start : mask < 2 ^ n → ((i : ℕ) → i < n → rowAt s i < 2 ^ 64) → Marking inserts n s v mask mask s
-  marking-start h q = record { long = refl; below = h; small = q; left = refl }
+  pub marking-start : mask < 2 ^ n → Marking inserts n s v mask mask s
+  marking-start h = visiting-start n mask _ h record { long = refl; done = λ i q. absurd (omega arith); rest = λ i q. refl }
 
-  -- one row done: r is row i with the bit v marked
-  module _ (t : List ℕ) (rest i r : ℕ) (long : length s ≡ size n) (was : Marking inserts n s v mask rest t) (l : Lowest rest i)
-      (hr : r < 2 ^ 64) (m : Marked inserts (rowAt t i) (2 ^ v) r) where
-    hi : i < n
-    hi = lowest-lt n rest i l (was .below)
+  module _ (small : (i : ℕ) → getD s i 0 < 2 ^ 64) (t : List ℕ) where
+    -- u is t with row k as the edit leaves it
+    begun-more : (u : List ℕ) (k : ℕ) → Begun inserts s v mask t k → length u ≡ length t → ((i : ℕ) → ¬ (i ≡ k) → getD u i 0 ≡ getD t i 0)
+        → rowAt u k < 2 ^ 64 → ((j : ℕ) → j < 64 → bit (rowAt u k) j ≡ marked inserts (hasBit mask k && eqb j v) (edgeAt s k j)) → Begun inserts s v mask u (suc k)
+    begun-more u k was long other hu e = record {
+      long = long ∙ was .long;
+      done = λ i q. elim (ℕ-discrete i k) [
+        | yes p ↦ rw p (edited-only inserts s v mask 0 k (rowAt u k) hu (λ j l. e j l ∙ rw (named-none v mask k j)))
+        | no d ↦ other i d ∙ was .done i (omega (arith, d))
+      ];
+      rest = λ i q. other i (omega arith) ∙ was .rest i (omega arith);
+    }
 
-    stored : rowAt (set t i r) i ≡ r
-    stored = getD-set-same t i r 0 (omega (arith, hi, was .long))
+    passes : Passes n mask (Begun inserts s v mask t)
+    passes k h z was =
+        begun-more t k was refl (λ i d. refl) (rw (was .rest k (le-refl k)) (small k)) (λ j l. rw (z, was .rest k (le-refl k)))
 
-    row : (k : ℕ) → k < n → editedRow inserts (set t i r) v (withoutBit rest i) 0 k ≡ editedRow inserts t v rest 0 k
-    row k hk =
-        elim (ℕ-discrete k i) [
-          | yes e ↦ rw e (edited-only inserts t v rest 0 i _ (edited-lt inserts (set t i r) v (withoutBit rest i) 0 i) here)
-          | no d ↦
-              edited-same inserts (set t i r) t v (withoutBit rest i) 0 rest 0 k
-              (λ j. rw (getD-set-other t i k r 0 d, bit-clear-other rest i k d))
-        ]
-      where
-        here : (j : ℕ) → j < 64 → bit (editedRow inserts (set t i r) v (withoutBit rest i) 0 i) j ≡ marked inserts (namedAt v rest 0 i j) (edgeAt t i j)
-        here j q =
-            bit-edited inserts (set t i r) v (withoutBit rest i) 0 i j q
-            ∙ rw (named-none v (withoutBit rest i) i j, named-none v rest i j, bit-clear-same rest i, l .set, stored, m j q, has-pow v j)
+    -- one row done: r is row i with the bit v marked
+    pub marking-more : (rest i r : ℕ) → length s ≡ size n → Marking inserts n s v mask rest t → Lowest rest i → r < 2 ^ 64
+        → Marked inserts (rowAt t i) (2 ^ v) r → (rest′ : ℕ) → LowestCleared rest rest′ → Marking inserts n s v mask rest′ (set t i r)
+    marking-more rest i r long was l hr m rest′ e =
+        visiting-more n mask _ passes rest was i l _ rest′ e
+        (λ h o p.
+        let stored = getD-set-same t i r 0 (omega (arith, p .long)) in
+        begun-more (set t i r) i p (length-set t i r) (λ k d. getD-set-other t i k r 0 d) (rw stored hr)
+        (λ j q. rw (stored, o, ← p .rest i (le-refl i)) (m j q ∙ rw (has-pow v j))))
 
-    pub marking-more : (rest′ : ℕ) → LowestCleared rest rest′ → Marking inserts n s v mask rest′ (set t i r)
-    marking-more rest′ e =
-        rw (e i l)
-        record {
-          long = length-set t i r ∙ was .long;
-          below = clear-below n rest i (was .below);
-          small = λ k hk. elim (ℕ-discrete k i) [ yes q ↦ rw (q, stored) hr | no d ↦ rw (getD-set-other t i k r 0 d) (was .small k hk) ];
-          left = same ∙ was .left;
-        }
-      where
-        u : List ℕ
-        u = rowsEdited inserts n (set t i r) v (withoutBit rest i) 0
-
-        long′ : length (set t i r) ≡ size n
-        long′ = length-set t i r ∙ was .long ∙ long
-
-        same : u ≡ rowsEdited inserts n t v rest 0
-        same =
-            redone-ext n _ _ t u (length-redone n _ _ (set t i r) ∙ length-set t i r)
-            (λ k hk. row-redone n _ _ (set t i r) long′ k hk ∙ row k hk)
-            (λ k j hk hj. count-redone n _ _ (set t i r) long′ k j hk hj ∙ getD-set-other t i _ r 0 (omega (arith, hi)))
-            (λ k hk. rest-redone n _ _ (set t i r) k hk ∙ getD-set-other t i k r 0 (omega (arith, hi)))
-
-  -- with no row left
-  pub marking-done : (t : List ℕ) (rest : ℕ) → Marking inserts n s v mask rest t → rest ≡ 0 → t ≡ rowsEdited inserts n s v mask 0
-  marking-done t rest was e =
-      redone-ext n (editedRow inserts t v 0 0) (countAt n t) t t refl
-      (λ i hi. edited-none inserts t v i (was .small i hi))
-      (λ i j hi hj. refl)
-      (λ k hk. refl)
-      ∙ rw e at (was .left)
+    -- with no row left
+    pub marking-done : (rest : ℕ) → Marking inserts n s v mask rest t → rest ≡ 0 → t ≡ rowsEdited inserts n s v mask 0
+    marking-done rest was e =
+        let all = visiting-done n mask _ passes rest was e in
+        redone-ext n _ _ s t (all .long) (all .done) (λ i j hi hj. all .rest _ (omega arith)) (λ k hk. all .rest k (omega arith))
 
 -- ---- and the row of v on top
 
