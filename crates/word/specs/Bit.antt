@@ -7,6 +7,10 @@ use Prim.Native.Nat.{ℕ, _+_, _-_, _*_, _/_, _%_, _^_, _<_}
 use lib.Dec.{eqb}
 use Rattle.sums.specs.Sum.{sum}
 
+-- the bits of a word
+abbrev pub wordBits : ℕ
+wordBits = 64
+
 -- bit j of x: 0 or 1
 abbrev pub bit : ℕ → ℕ → ℕ
 bit x j = x / 2 ^ j % 2
@@ -25,21 +29,21 @@ withoutBit x j = x - bit x j * 2 ^ j
 
 -- the word whose bit j, for j below 64, is f j, where each f j is 1 or 0
 unfoldable pub ofBits : (ℕ → ℕ) → ℕ
-ofBits f = sum 64 (λ j. f j * 2 ^ j)
+ofBits f = sum wordBits (λ j. f j * 2 ^ j)
 
 -- how many bits of a word are set
 unfoldable pub bitCount : ℕ → ℕ
-bitCount x = sum 64 (λ j. bit x j)
+bitCount x = sum wordBits (λ j. bit x j)
 
 -- r is the place of the lowest bit of x that is set
 pub record Lowest (x r : ℕ) : Type 0 where
-  pub within : r < 64
+  pub within : r < wordBits
   pub set : bit x r ≡ 1
   pub least : (k : ℕ) → k < r → bit x k ≡ 0
 
 -- r is the place of the highest bit of x that is set
 pub record Highest (x r : ℕ) : Type 0 where
-  pub within : r < 64
+  pub within : r < wordBits
   pub set : bit x r ≡ 1
   pub greatest : (k : ℕ) → r < k → bit x k ≡ 0
 

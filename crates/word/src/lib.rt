@@ -2,12 +2,15 @@
 ghost use mathlib.Core.Path.{_≡_};
 ghost use Prim.Native.Nat.{_+_, _-_, _*_, _≤_, _<_, _%_, _^_};
 ghost use lib.Dec.{ltb};
-ghost use Rattle.word.specs.Bit.{hasBit, withBit, withoutBit, bitCount, Lowest, Highest, LowestCleared};
+ghost use Rattle.word.specs.Bit.{wordBits, hasBit, withBit, withoutBit, bitCount, Lowest, Highest, LowestCleared};
 ghost use Rattle.word.specs.Wrap.{minus};
+
+// The bits of a word.
+const BITS: usize = 64;
 
 // Internal: whether bit j of row is set.
 pub fn test_bit(row: u64, j: usize) -> bool
-    requires { ⌜ j < 64 ⌝ }
+    requires { ⌜ j < wordBits ⌝ }
     ensures { λ r. ⌜ r ≡ hasBit row j ⌝ }
 {
     (row >> j) & 1 == 1
@@ -15,7 +18,7 @@ pub fn test_bit(row: u64, j: usize) -> bool
 
 // Internal: row with bit j set.
 pub fn set_bit(row: u64, j: usize) -> u64
-    requires { ⌜ j < 64 ⌝ }
+    requires { ⌜ j < wordBits ⌝ }
     ensures { λ r. ⌜ r ≡ withBit row j ⌝ }
 {
     row | (1 << j)
@@ -23,7 +26,7 @@ pub fn set_bit(row: u64, j: usize) -> u64
 
 // Internal: row with bit j cleared.
 pub fn clear_bit(row: u64, j: usize) -> u64
-    requires { ⌜ j < 64 ⌝ }
+    requires { ⌜ j < wordBits ⌝ }
     ensures { λ r. ⌜ r ≡ withoutBit row j ⌝ }
 {
     row & !(1 << j)
@@ -40,7 +43,7 @@ pub fn count_bits(row: u64) -> u64
 pub fn within(row: u64, n: usize) -> bool
     ensures { λ r. ⌜ r ≡ ltb row (2 ^ n) ⌝ }
 {
-    if 64 <= n {
+    if BITS <= n {
         return true;
     }
     row >> n == 0
@@ -48,10 +51,10 @@ pub fn within(row: u64, n: usize) -> bool
 
 // Internal: the word whose bits below n are set, and no others.
 pub fn low_bits(n: usize) -> u64
-    requires { ⌜ n ≤ 64 ⌝ }
+    requires { ⌜ n ≤ wordBits ⌝ }
     ensures { λ r. ⌜ r ≡ 2 ^ n - 1 ⌝ }
 {
-    if n == 64 {
+    if n == BITS {
         return u64::MAX;
     }
     (1 << n) - 1
