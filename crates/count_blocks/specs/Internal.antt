@@ -15,15 +15,19 @@ use Rattle.sheet_theory.specs.Internal.{successorsSum}
 abbrev pub columns : ℕ
 columns = 16
 
+-- the words of the array of `UnitWords`
+abbrev pub unitWords : ℕ
+unitWords = 2 * columns
+
 -- t has, for each column of the block from c on, the sum of the counts to it from the vertices of the mask, modulo 2 ^ 64
 pub record BlockSummed (n : ℕ) (s : List ℕ) (mask c : ℕ) (t : List ℕ) : Type 0 where
   pub long : length t ≡ columns
   pub sums : (j : ℕ) → j < columns → getD t j 0 ≡ sum n (λ b. bit mask b * countAt n s b (c + j)) % 2 ^ 64
 
--- u has 1 at place 16, and 0 at every other
+-- u has 1 in its middle, and 0 at every other place
 pub record UnitWords (u : List ℕ) : Type 0 where
-  pub long : length u ≡ 32
-  pub one : (k : ℕ) → k < 32 → getD u k 0 ≡ delta k columns
+  pub long : length u ≡ unitWords
+  pub one : (k : ℕ) → k < unitWords → getD u k 0 ≡ delta k columns
 
 -- r is the place of i among the columns from c on, or 16 or more if i is none of them
 pub record PlaceOf (i c r : ℕ) : Type 0 where

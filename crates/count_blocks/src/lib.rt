@@ -6,7 +6,7 @@ ghost use Prim.Native.Nat.{ℕ, _+_, _≤_, _<_, _^_};
 ghost use lib.ListN.{length};
 ghost use Rattle.word.specs.Wrap.{plus, minus};
 ghost use Rattle.answer.specs.Table.{Reflects};
-ghost use Rattle.sheet_theory.specs.Layout.{Shape};
+ghost use Rattle.sheet_theory.specs.Layout.{mostVertices, Shape};
 ghost use Rattle.sheet_theory.specs.Internal.{RowHolds, RowsBelow};
 ghost use Rattle.order.specs.Internal.{Ordered};
 ghost use Rattle.count_rows.specs.Internal.{counted, ColumnsFilled};
@@ -33,7 +33,7 @@ fn unit_words() -> [u64; UNIT_WORDS]
 
 // The place of i among the columns from c on. It is COLUMNS or more exactly if i is none of them, so one test tells.
 fn place_of(i: usize, c: usize) -> usize
-    requires { ⌜ (i < 64) × (c < 64) ⌝ }
+    requires { ⌜ (i < mostVertices) × (c < mostVertices) ⌝ }
     ensures { λ r. ⌜ PlaceOf i c r ⌝ }
 {
     std::num::wrapping_sub_usize(i, c)
@@ -41,7 +41,7 @@ fn place_of(i: usize, c: usize) -> usize
 
 // The path from i to itself, added to the counts from i to the columns from c on.
 fn add_own(unit: &[u64; UNIT_WORDS], i: usize, c: usize, t: &mut [u64; COLUMNS])
-    requires { ⌜ (UnitWords (now unit)) × (i < 64) × (c < 64) × (length (now t) ≡ columns) ⌝ }
+    requires { ⌜ (UnitWords (now unit)) × (i < mostVertices) × (c < mostVertices) × (length (now t) ≡ columns) ⌝ }
     ensures { λ r. ⌜ OwnBy plus i c (now (t .entry)) (now (t .exit)) ⌝ }
 {
     let place = place_of(i, c);
@@ -85,7 +85,7 @@ fn count_block(
 
 // The columns from c on, as a mask.
 fn block_mask(c: usize) -> u64
-    requires { ⌜ c + columns ≤ 64 ⌝ }
+    requires { ⌜ c + columns ≤ mostVertices ⌝ }
     ensures { λ r. ⌜ HasColumns c r ⌝ }
 {
     word::low_bits(c + COLUMNS) & !word::low_bits(c)
@@ -93,7 +93,7 @@ fn block_mask(c: usize) -> u64
 
 // The vertices found to lead to one of a block's columns, and i too if an edge leads from it to one of them, a vertex of the mask.
 fn lead(leading: u64, i: usize, mask: u64) -> u64
-    requires { ⌜ i < 64 ⌝ }
+    requires { ⌜ i < mostVertices ⌝ }
     ensures { λ r. ⌜ Led leading i mask r ⌝ }
 {
     if mask != 0 {
@@ -104,7 +104,7 @@ fn lead(leading: u64, i: usize, mask: u64) -> u64
 
 // Where the block of columns begins that holds column c and those after it: at c, or earlier where fewer than 16 are left.
 fn block_at(n: usize, c: usize) -> usize
-    requires { ⌜ (columns ≤ n) × (n ≤ 64) × (c < n) ⌝ }
+    requires { ⌜ (columns ≤ n) × (n ≤ mostVertices) × (c < n) ⌝ }
     ensures { λ r. ⌜ BlockAt n c r ⌝ }
 {
     if n < c + COLUMNS {
@@ -171,7 +171,7 @@ fn take_row(n: usize, words: &[u64], base: usize, t: &mut [u64])
 
 // The path from i to itself, taken off the counts from i to the columns from c on.
 fn take_own(unit: &[u64; UNIT_WORDS], i: usize, c: usize, t: &mut [u64; COLUMNS])
-    requires { ⌜ (UnitWords (now unit)) × (i < 64) × (c < 64) × (length (now t) ≡ columns) ⌝ }
+    requires { ⌜ (UnitWords (now unit)) × (i < mostVertices) × (c < mostVertices) × (length (now t) ≡ columns) ⌝ }
     ensures { λ r. ⌜ OwnBy minus i c (now (t .entry)) (now (t .exit)) ⌝ }
 {
     let place = place_of(i, c);

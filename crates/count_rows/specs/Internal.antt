@@ -6,12 +6,12 @@ use mathlib.Core.List.{List}
 use Prim.Native.Nat.{ℕ, _+_, _%_, _^_, _≤_, _<_}
 use lib.ListN.{length, getD}
 use Rattle.graph.specs.Count.{pathCount}
-use Rattle.sheet_theory.specs.Layout.{countsFrom, rowAt, countAt, edgeAt, redone}
+use Rattle.sheet_theory.specs.Layout.{mostVertices, countsFrom, rowAt, countAt, edgeAt, redone}
 use Rattle.sheet_theory.specs.Internal.{successorsSum}
 
 -- t has, at each j below n, the count from i to j that the recurrence gives
 pub record SuccessorsSummed (n : ℕ) (s : List ℕ) (i : ℕ) (t : List ℕ) : Type 0 where
-  pub long : length t ≡ 64
+  pub long : length t ≡ mostVertices
   pub sums : (j : ℕ) → j < n → getD t j 0 ≡ successorsSum n s i j
 
 -- the n words of s from base on are those of t

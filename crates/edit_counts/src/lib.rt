@@ -7,7 +7,7 @@ ghost use Prim.Native.Nat.{_+_, _%_, _≤_, _<_, _^_};
 ghost use lib.ListN.{length};
 ghost use Rattle.word.specs.Bit.{bit};
 ghost use Rattle.graph.specs.Update.{fromSum};
-ghost use Rattle.sheet_theory.specs.Layout.{Shape, countAt};
+ghost use Rattle.sheet_theory.specs.Layout.{mostVertices, Shape, countAt};
 ghost use Rattle.edit_counts.specs.Internal.{Ready, toFactor, fromFactor, withFactors, withMultiple, rowEdited, countsBy, countsEdited};
 use sheet::Sheet;
 
@@ -69,7 +69,7 @@ fn sum_from(n: usize, sheet: &[u64], i: usize, mask: u64) -> u64
 
 // x times t, added to the n words from base on, modulo 2^64. Nothing is written where x is 0.
 fn add_multiple(n: usize, sheet: &mut [u64], base: usize, x: u64, t: &[u64; Sheet::VERTICES])
-    requires { ⌜ (n ≤ 64) × (base + n ≤ length (now sheet)) ⌝ }
+    requires { ⌜ (n ≤ mostVertices) × (base + n ≤ length (now sheet)) ⌝ }
     ensures { λ r. ⌜ now (sheet .exit) ≡ withMultiple n (now (sheet .entry)) base x (now (t .entry)) ⌝ }
 {
     if x == 0 {

@@ -16,7 +16,7 @@ impl Listing {
     pub const BYTES: usize = 27 + Sheet::VERTICES * Sheet::VERTICES * 27;
     // What a program has to read of its input: one byte more than the longest plan, since a longer input is refused by its
     // length, whatever follows.
-    pub const INPUT: usize = 32769;
+    pub const INPUT: usize = plan::MOST_BYTES + 1;
 }
 
 // A buffer for what a program has to read of its input.

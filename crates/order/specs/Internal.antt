@@ -8,7 +8,7 @@ use lib.ListN.{length, getD}
 use Rattle.word.specs.Bit.{bit, withoutBit, bitCount}
 use Rattle.graph.specs.Graph.{Edge, Cycle}
 use Rattle.graph.specs.Order.{Order}
-use Rattle.sheet_theory.specs.Layout.{rowAt, edgeAt}
+use Rattle.sheet_theory.specs.Layout.{mostVertices, rowAt, edgeAt}
 use Rattle.order.specs.declared.Peeling.{Peeling}
 
 -- the vertex at place k of an order or of a stack
@@ -20,7 +20,7 @@ vertexAt l k = getD l k 0
 -- l holds, in order, the vertices taken away from the graph of s, and p how many, and those that are left: each edge from a vertex
 -- taken away leads to one that was taken away before it
 pub record Peeled (n : ℕ) (s : List ℕ) (p : Peeling) (l : List ℕ) : Type 0 where
-  pub long : length l ≡ 64
+  pub long : length l ≡ mostVertices
   pub below : p .left < 2 ^ n
   pub total : bitCount (p .left) + p .count ≡ n
   pub order : Order n (edgeAt s) (p .count) (vertexAt l)
@@ -38,7 +38,7 @@ NoneAhead s left i = bitAnd (rowAt s i) left ≡ 0
 
 -- the first d entries of l are vertices that are left, and from each an edge leads to the next
 pub record Stack (n : ℕ) (s : List ℕ) (left : ℕ) (l : List ℕ) (d : ℕ) : Type 0 where
-  pub long : length l ≡ 64
+  pub long : length l ≡ mostVertices
   pub short : d ≤ n
   pub held : (k : ℕ) → k < d → bit left (vertexAt l k) ≡ 1
   pub edges : (k : ℕ) → k + 1 < d → Edge n (edgeAt s) (vertexAt l k) (vertexAt l (k + 1))
@@ -59,7 +59,7 @@ pub record Descended (n : ℕ) (s : List ℕ) (left d : ℕ) (l : List ℕ) : Ty
 
 -- l holds every vertex, each after those to which its edges lead
 pub record Ordered (n : ℕ) (s l : List ℕ) : Type 0 where
-  pub long : length l ≡ 64
+  pub long : length l ≡ mostVertices
   pub order : Order n (edgeAt s) n (vertexAt l)
   pub all : (i : ℕ) → i < n → (m : ℕ) × (m < n) × (vertexAt l m ≡ i)
 

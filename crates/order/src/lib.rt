@@ -5,7 +5,7 @@
 ghost use Prim.Native.Nat.{_<_, _^_};
 ghost use mathlib.Core.Path.{_≡_};
 ghost use lib.ListN.{length, set};
-ghost use Rattle.sheet_theory.specs.Layout.{Shape};
+ghost use Rattle.sheet_theory.specs.Layout.{mostVertices, Shape};
 ghost use Rattle.sheet_theory.specs.Internal.{RowsBelow};
 ghost use Rattle.order.specs.Internal.{Stack, Ahead, Descended, takenAway, OrderFound};
 use sheet::Sheet;
@@ -63,7 +63,7 @@ fn descend(
 
 // Vertex v is taken away and entered in the order.
 fn take_away(p: Peeling, order: &mut [usize; Sheet::VERTICES], v: usize) -> Peeling
-    requires { ⌜ (v < 64) × (p .count < 64) ⌝ }
+    requires { ⌜ (v < mostVertices) × (p .count < mostVertices) ⌝ }
     ensures state { λ r. ⌜ r ≡ takenAway p v ⌝ }
     ensures order { λ r. ⌜ now (order .exit) ≡ set (now (order .entry)) (p .count) v ⌝ }
 {
@@ -77,7 +77,7 @@ fn take_away(p: Peeling, order: &mut [usize; Sheet::VERTICES], v: usize) -> Peel
 
 // Internal: whether there is no cycle; then order holds every vertex, after those to which its edges lead.
 pub fn find_order(n: usize, sheet: &[u64], order: &mut [usize; Sheet::VERTICES]) -> bool
-    requires { ⌜ (Shape n (now sheet)) × (RowsBelow n (now sheet)) × (length (now order) ≡ 64) ⌝ }
+    requires { ⌜ (Shape n (now sheet)) × (RowsBelow n (now sheet)) × (length (now order) ≡ mostVertices) ⌝ }
     ensures { λ r. ⌜ OrderFound n (now (sheet .entry)) r (now (order .exit)) ⌝ }
 {
     let mut stack = [0usize; Sheet::VERTICES];

@@ -2,6 +2,7 @@
 ghost use mathlib.Core.Path.{_≡_};
 ghost use Prim.Native.Nat.{_%_};
 ghost use lib.ListN.{length};
+ghost use Rattle.record.specs.Record.{recordBytes};
 ghost use Rattle.sheet_theory.specs.Layout.{Shape};
 ghost use Rattle.plan_theory.specs.Records.{numberOn, leftBy};
 ghost use Rattle.plan_theory.specs.Calls.{appliedPlan};
@@ -28,7 +29,7 @@ fn apply_record(n: usize, sheet: &mut [u64], record: Record) -> u64
 
 // The records of a plan of whole records, up to the first that is refused: its number and its place, or 0 and 0.
 fn apply(n: usize, sheet: &mut [u64], plan: &[u8]) -> Answer
-    requires { ⌜ length (now plan) % 8 ≡ 0 ⌝ }
+    requires { ⌜ length (now plan) % recordBytes ≡ 0 ⌝ }
     ensures { λ r. ⌜ Reached (appliedPlan n (now (sheet .entry)) (now (plan .entry))) r (now (sheet .exit)) ⌝ }
 {
     let mut k = 0;
@@ -50,7 +51,7 @@ fn apply(n: usize, sheet: &mut [u64], plan: &[u8]) -> Answer
 
 // The records of a plan of whole records, all of them or none: if one is refused, the words are put back.
 pub(crate) fn apply_all(n: usize, sheet: &mut [u64], plan: &[u8]) -> Answer
-    requires { ⌜ (Shape n (now sheet)) × (length (now plan) % 8 ≡ 0) ⌝ }
+    requires { ⌜ (Shape n (now sheet)) × (length (now plan) % recordBytes ≡ 0) ⌝ }
     ensures { λ r. ⌜ AppliedAll n (now (sheet .entry)) (now (plan .entry)) r (now (sheet .exit)) ⌝ }
 {
     let mut kept = [0u64; Sheet::WORDS];

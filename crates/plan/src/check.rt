@@ -2,19 +2,17 @@
 ghost use mathlib.Core.Path.{_≡_};
 ghost use Rattle.plan_theory.specs.Calls.{lengthNumber};
 ghost use Rattle.plan.specs.Internal.{ReadNumber};
+use record::Record;
 use sheet::Refusal;
-
-// The greatest length of a plan: 4,096 records.
-const MOST_BYTES: usize = 32768;
 
 // The number by which the length of a plan is refused: 13, or 0.
 fn length_number(bytes: usize) -> u64
     ensures { λ r. ⌜ r ≡ lengthNumber bytes ⌝ }
 {
-    if bytes % 8 != 0 {
+    if bytes % Record::BYTES != 0 {
         return Refusal::PLAN_LENGTH;
     }
-    if MOST_BYTES < bytes {
+    if crate::MOST_BYTES < bytes {
         return Refusal::PLAN_LENGTH;
     }
     0

@@ -1,6 +1,7 @@
 // Plans: edits of one edge each, written by a grower, read into a sheet, and the edges of a sheet written as a plan. The calls of this
 // file answer every n, every length, all words and all bytes.
 ghost use Rattle.plan_theory.specs.Calls.{ReadPlan, WritePlan};
+use record::Record;
 use sheet::Answer;
 use sheet::Refusal;
 
@@ -8,6 +9,9 @@ mod apply;
 mod check;
 mod keep;
 mod write;
+
+// The greatest length of a plan, in bytes: 4,096 records.
+pub const MOST_BYTES: usize = 32768;
 
 // The records of a plan, applied one after the other to the sheet; if one is refused, those before it are undone (document 01: plan
 // read). Refused by 1, 2, 9, 13, and at a record, whose place from 1 up is answered, by 14, 3, 5, 6, 7, 8. The value is the number
@@ -31,7 +35,7 @@ pub fn write_plan(n: usize, sheet: &[u64], plan: &mut [u8]) -> Answer
     if number != 0 {
         return Answer::refused(number);
     }
-    let bytes = 8 * sheet::rows::count_set_bits(n, sheet);
+    let bytes = Record::BYTES as u64 * sheet::rows::count_set_bits(n, sheet);
     if (plan.len() as u64) < bytes {
         return Answer::refused(Refusal::BUFFER);
     }

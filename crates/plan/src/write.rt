@@ -3,13 +3,13 @@ ghost use mathlib.Core.Path.{_≡_};
 ghost use Prim.Native.Nat.{_+_, _≤_, _<_};
 ghost use lib.ListN.{length};
 ghost use Rattle.text.specs.Text.{Put, written};
-ghost use Rattle.sheet_theory.specs.Layout.{Shape};
+ghost use Rattle.sheet_theory.specs.Layout.{mostVertices, Shape};
 ghost use Rattle.record.specs.Record.{insertLetter, encoded};
 ghost use Rattle.plan_theory.specs.PlanOf.{rowBytes, planOf};
 
 // The record of the edge from i to j, from a place on: the place after it.
 fn write_edge(i: usize, j: usize, plan: &mut [u8], at: usize) -> usize
-    requires { ⌜ (i < 64) × (j < 64) × (at + length (encoded insertLetter i j) ≤ length (now plan)) ⌝ }
+    requires { ⌜ (i < mostVertices) × (j < mostVertices) × (at + length (encoded insertLetter i j) ≤ length (now plan)) ⌝ }
     ensures { λ r. ⌜ Put (now (plan .entry)) at (encoded insertLetter i j) (now (plan .exit)) r ⌝ }
 {
     let bytes = record::encode(b'L', i, j);

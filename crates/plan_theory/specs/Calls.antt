@@ -7,6 +7,7 @@ use Prim.Native.Nat.{ℕ, _*_, _%_, _<_}
 use lib.Dec.{ltb, eqb}
 use lib.ListN.{length}
 use Rattle.text.specs.Text.{written}
+use Rattle.record.specs.Record.{recordBytes}
 use Rattle.answer.specs.declared.Answer.{Answer}
 use Rattle.answer.specs.Table.{_gives_, Conditions, First, firstTrue}
 use Rattle.answer.specs.Answers.{answer, decided}
@@ -24,11 +25,11 @@ mostBytes = 32768
 
 -- 13: the length is not a multiple of 8, or over 32,768 bytes
 abbrev pub BadPlan : List ℕ → Type 0
-BadPlan plan = (¬ (length plan % 8 ≡ 0)) ⊎ (mostBytes < length plan)
+BadPlan plan = (¬ (length plan % recordBytes ≡ 0)) ⊎ (mostBytes < length plan)
 
 -- the number that a length of so many bytes gives, by a test: 13, or 0
 unfoldable pub lengthNumber : ℕ → ℕ
-lengthNumber bytes = firstTrue ((not (eqb (bytes % 8) 0) || ltb mostBytes bytes) gives 13 ∷ [])
+lengthNumber bytes = firstTrue ((not (eqb (bytes % recordBytes) 0) || ltb mostBytes bytes) gives 13 ∷ [])
 
 -- what is looked for before the first record
 abbrev pub readConditions : ℕ → Lent → List ℕ → Conditions
@@ -60,7 +61,7 @@ pub record ReadPlan (n : ℕ) (s : Lent) (plan : List ℕ) (r : Answer) (t : Len
 
 -- 10: len bytes are under 8 an edge
 abbrev pub ShortBuffer : ℕ → Lent → ℕ → Type 0
-ShortBuffer n s len = len < 8 * setBits n (s .words)
+ShortBuffer n s len = len < recordBytes * setBits n (s .words)
 
 abbrev pub writeConditions : ℕ → Lent → ℕ → Conditions
 writeConditions n s len = validConditions n s (ShortBuffer n s len gives 10 ∷ [])

@@ -5,7 +5,7 @@ use lib.ListN.{length}
 use Rattle.sums.specs.Gather.{gather}
 use Rattle.record.specs.declared.Record.{Record}
 use Rattle.record.specs.declared.Record.the-variants.{Insert, Delete, Malformed}
-use Rattle.record.specs.Record.{recordNumber}
+use Rattle.record.specs.Record.{recordBytes, recordNumber}
 use Rattle.record.specs.Reader.{recordAt}
 use Rattle.answer.specs.Answers.{decided}
 use Rattle.sheet_theory.specs.Lent.{Lent}
@@ -16,7 +16,7 @@ use Rattle.edit_theory.specs.Outcome.{editAnswer, editAfter}
 
 -- its records, one for each 8 bytes, in order
 abbrev pub records : List ℕ → List Record
-records plan = gather (length plan / 8) (λ k. recordAt plan k ∷ [])
+records plan = gather (length plan / recordBytes) (λ k. recordAt plan k ∷ [])
 
 -- what f makes of the edit of a record; a malformed one has no edit, and then it is none
 abbrev pub byEdit {ℓ} : {A : Type ℓ} → ℕ → (Edit → A) → A → Record → A

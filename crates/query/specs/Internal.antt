@@ -5,7 +5,7 @@ use mathlib.Core.List.{List, []}
 use Prim.Native.Nat.{ℕ, _≤_, _<_}
 use lib.ListN.{length, getD, take}
 use Rattle.answer.specs.Table.{firstTrue}
-use Rattle.sheet_theory.specs.Layout.{countAt, edgeAt}
+use Rattle.sheet_theory.specs.Layout.{mostVertices, countAt, edgeAt}
 use Rattle.sheet_theory.specs.Conditions.{vertexTests, sizedTests}
 use Rattle.query.specs.declared.walk.Next.{Next}
 use Rattle.query_theory.specs.Walk.{goes, passes, tried}
@@ -29,7 +29,7 @@ Stepped n s i j k r =
 
 -- the first r entries of l are the walk from i to j by the number k: none, where it does not arrive with k at 0
 pub record WalkKept (n : ℕ) (s : List ℕ) (i j k r : ℕ) (l : List ℕ) : Type 0 where
-  pub long : length l ≡ 64
+  pub long : length l ≡ mostVertices
   pub within : r ≤ n
   pub kept : take r l ≡ walk n s i j k
 

@@ -2,7 +2,7 @@
 ghost use mathlib.Core.Path.{_≡_};
 ghost use Prim.Native.Nat.{_<_};
 ghost use lib.ListN.{length};
-ghost use Rattle.sheet_theory.specs.Layout.{Shape};
+ghost use Rattle.sheet_theory.specs.Layout.{mostVertices, Shape};
 ghost use Rattle.query.specs.Internal.{Stepped, WalkKept};
 use sheet::Sheet;
 use sheet::layout;
@@ -41,7 +41,7 @@ pub(crate) fn walk_aside(
     k: u64,
     aside: &mut [u8; Sheet::VERTICES],
 ) -> usize
-    requires { ⌜ (Shape n (now sheet)) × (from < n) × (to < n) × (length (now aside) ≡ 64) ⌝ }
+    requires { ⌜ (Shape n (now sheet)) × (from < n) × (to < n) × (length (now aside) ≡ mostVertices) ⌝ }
     ensures { λ r. ⌜ WalkKept n (now (sheet .entry)) from to k r (now (aside .exit)) ⌝ }
 {
     let mut at = from;

@@ -7,12 +7,12 @@ use lib.ListN.{length, take, drop}
 use Rattle.record.specs.declared.Record.{Record}
 use Rattle.record.specs.declared.reader.Reading.{Reading}
 use Rattle.record.specs.declared.reader.Reading.the-variants.{Read, End}
-use Rattle.record.specs.Record.{decoded}
+use Rattle.record.specs.Record.{recordBytes, decoded}
 
 -- the record k of a plan, from 0 up: what the 8 bytes from 8 × k on say
 abbrev pub recordAt : List ℕ → ℕ → Record
-recordAt plan k = decoded (take 8 (drop (8 * k) plan))
+recordAt plan k = decoded (take recordBytes (drop (recordBytes * k) plan))
 
 -- what a reader that has got to the record k gives: that record and the number of the next, if a byte is left
 unfoldable pub readingAt : List ℕ → ℕ → Reading
-readingAt plan k = cond (leb (length plan) (8 * k)) End (Read (recordAt plan k) (suc k))
+readingAt plan k = cond (leb (length plan) (recordBytes * k)) End (Read (recordAt plan k) (suc k))

@@ -13,6 +13,10 @@ use Rattle.record.specs.declared.Record.the-variants.{Insert, Delete, Ma
 
 -- ---- the form
 
+-- the bytes of a record
+abbrev pub recordBytes : ℕ
+recordBytes = 8
+
 -- the letters, L and T
 abbrev pub insertLetter : ℕ
 insertLetter = 76
@@ -67,4 +71,4 @@ said at = byLetter (at 0) (numberOf (at 2) (at 3)) (numberOf (at 5) (at 6))
 
 -- what b says
 unfoldable pub decoded : List ℕ → Record
-decoded b = let at : ℕ → ℕ = λ i. getD b i 0 in cond (eqb (length b) 8 && restFits at) (said at) Malformed
+decoded b = let at : ℕ → ℕ = λ i. getD b i 0 in cond (eqb (length b) recordBytes && restFits at) (said at) Malformed

@@ -4,7 +4,7 @@ ghost use mathlib.Core.Path.{_≡_};
 ghost use mathlib.Core.Bool.{true};
 ghost use Prim.Native.Nat.{_<_};
 ghost use lib.ListN.{take};
-ghost use Rattle.record.specs.Record.{encoded, areDigits, numberOf, decoded};
+ghost use Rattle.record.specs.Record.{recordBytes, encoded, areDigits, numberOf, decoded};
 
 pub mod reader;
 
@@ -18,8 +18,13 @@ pub enum Record {
     Malformed,
 }
 
+impl Record {
+    // The bytes of a record.
+    pub const BYTES: usize = 8;
+}
+
 // Internal: the record of a letter and two numbers below 100.
-pub fn encode(letter: u8, from: usize, to: usize) -> [u8; 8]
+pub fn encode(letter: u8, from: usize, to: usize) -> [u8; Record::BYTES]
     requires { ⌜ (from < 100) × (to < 100) ⌝ }
     ensures { λ r. ⌜ r ≡ encoded letter from to ⌝ }
 {
@@ -52,9 +57,9 @@ fn number(tens: u8, ones: u8) -> usize
 
 // What the first 8 bytes say: each is compared with what a record has there, and fewer are no record.
 pub fn decode(bytes: &[u8]) -> Record
-    ensures { λ r. ⌜ r ≡ decoded (take 8 (now (bytes .entry))) ⌝ }
+    ensures { λ r. ⌜ r ≡ decoded (take recordBytes (now (bytes .entry))) ⌝ }
 {
-    if bytes.len() < 8 {
+    if bytes.len() < Record::BYTES {
         return Record::Malformed;
     }
     if bytes[1] != b' ' || bytes[4] != b' ' || bytes[7] != b'\n' {

@@ -21,10 +21,10 @@ pub enum Reading {
 fn reading_at(plan: &[u8], k: usize) -> Reading
     ensures { λ r. ⌜ r ≡ readingAt (now (plan .entry)) k ⌝ }
 {
-    if plan.len() / 8 < k {
+    if plan.len() / Record::BYTES < k {
         return Reading::End;
     }
-    let start = 8 * k;
+    let start = Record::BYTES * k;
     if start == plan.len() {
         return Reading::End;
     }

@@ -36,5 +36,5 @@ pub record RowBy (op : ℕ → ℕ → ℕ) (n : ℕ) (s : List ℕ) (base : ℕ
 
 -- t has, at each j below n, the sum of the counts to j from the vertices of the mask, modulo 2 ^ 64
 pub record RowsSummed (n : ℕ) (s : List ℕ) (mask : ℕ) (t : List ℕ) : Type 0 where
-  pub long : length t ≡ 64
+  pub long : length t ≡ mostVertices
   pub sums : (j : ℕ) → j < n → getD t j 0 ≡ sum n (λ b. bit mask b * countAt n s b j) % 2 ^ 64

@@ -30,7 +30,7 @@ impl Sheet {
 
 // How many words a sheet of n vertices has.
 pub(crate) fn word_count(n: usize) -> usize
-    requires { ⌜ n ≤ 64 ⌝ }
+    requires { ⌜ n ≤ mostVertices ⌝ }
     ensures { λ r. ⌜ r ≡ size n ⌝ }
 {
     n + n * n
@@ -38,7 +38,7 @@ pub(crate) fn word_count(n: usize) -> usize
 
 // Internal: where the counts from vertex i begin.
 pub fn row_base(n: usize, i: usize) -> usize
-    requires { ⌜ (n ≤ 64) × (i < n) ⌝ }
+    requires { ⌜ (n ≤ mostVertices) × (i < n) ⌝ }
     ensures { λ r. ⌜ RowBase n i r ⌝ }
 {
     n + i * n
@@ -46,7 +46,7 @@ pub fn row_base(n: usize, i: usize) -> usize
 
 // Where the count from vertex i to vertex j stands.
 pub(crate) fn count_place(n: usize, i: usize, j: usize) -> usize
-    requires { ⌜ (n ≤ 64) × (i < n) × (j < n) ⌝ }
+    requires { ⌜ (n ≤ mostVertices) × (i < n) × (j < n) ⌝ }
     ensures { λ r. ⌜ Place n i j r ⌝ }
 {
     row_base(n, i) + j
