@@ -39,7 +39,7 @@ fn put_refused(out: &mut [u8], at: usize, place: u64, number: u64) -> usize
 }
 
 // i, j and the count between them.
-fn put_count(out: &mut [u8], at: usize, i: usize, j: usize, count: u64) -> usize
+fn put_count(i: usize, j: usize, count: u64, out: &mut [u8], at: usize) -> usize
     requires { ⌜ (i < mostVertices) × (j < mostVertices) × (at + length (countLine i j count) ≤ length (now out)) ⌝ }
     ensures { λ r. ⌜ Put (now (out .entry)) at (countLine i j count) (now (out .exit)) r ⌝ }
 {
@@ -56,7 +56,7 @@ fn put_count(out: &mut [u8], at: usize, i: usize, j: usize, count: u64) -> usize
 }
 
 // The line of i and j, if they differ and have a count above 0.
-fn put_pair(sheet: &[u64], out: &mut [u8], at: usize, i: usize, j: usize) -> usize
+fn put_pair(sheet: &[u64], i: usize, j: usize, out: &mut [u8], at: usize) -> usize
     requires { ⌜ (Shape mostVertices (now sheet)) × (i < mostVertices) × (j < mostVertices) × (at + length (pairLine (now sheet) i j) ≤ length (now out)) ⌝ }
     ensures { λ r. ⌜ Put (now (out .entry)) at (pairLine (now (sheet .entry)) i j) (now (out .exit)) r ⌝ }
 {
@@ -64,18 +64,18 @@ fn put_pair(sheet: &[u64], out: &mut [u8], at: usize, i: usize, j: usize) -> usi
     if i == j || count == 0 {
         return at;
     }
-    put_count(out, at, i, j, count)
+    put_count(i, j, count, out, at)
 }
 
 // The lines of i.
-fn put_row(sheet: &[u64], out: &mut [u8], at: usize, i: usize) -> usize
+fn put_row(sheet: &[u64], i: usize, out: &mut [u8], at: usize) -> usize
     requires { ⌜ (Shape mostVertices (now sheet)) × (i < mostVertices) × (at + length (rowLines (now sheet) i) ≤ length (now out)) ⌝ }
     ensures { λ r. ⌜ Put (now (out .entry)) at (rowLines (now (sheet .entry)) i) (now (out .exit)) r ⌝ }
 {
     let mut place = at;
     let mut j = 0;
     while j < Sheet::VERTICES {
-        place = put_pair(sheet, out, place, i, j);
+        place = put_pair(sheet, i, j, out, place);
         j += 1;
     }
     place
@@ -89,7 +89,7 @@ fn put_rows(sheet: &[u64], out: &mut [u8], at: usize) -> usize
     let mut place = at;
     let mut i = 0;
     while i < Sheet::VERTICES {
-        place = put_row(sheet, out, place, i);
+        place = put_row(sheet, i, out, place);
         i += 1;
     }
     place

@@ -62,7 +62,7 @@ fn descend(
 }
 
 // Vertex v is taken away and entered in the order.
-fn take_away(p: Peeling, order: &mut [usize; Sheet::VERTICES], v: usize) -> Peeling
+fn take_away(p: Peeling, v: usize, order: &mut [usize; Sheet::VERTICES]) -> Peeling
     requires { ⌜ (v < mostVertices) × (p .count < mostVertices) ⌝ }
     ensures state { λ r. ⌜ r ≡ takenAway p v ⌝ }
     ensures order { λ r. ⌜ now (order .exit) ≡ set (now (order .entry)) (p .count) v ⌝ }
@@ -92,7 +92,7 @@ pub fn find_order(n: usize, sheet: &[u64], order: &mut [usize; Sheet::VERTICES])
             return false;
         }
         depth -= 1;
-        p = take_away(p, order, stack[depth]);
+        p = take_away(p, stack[depth], order);
     }
     true
 }

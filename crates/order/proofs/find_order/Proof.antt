@@ -35,10 +35,10 @@ deep : (c : tie.Else2 Inv-loop μ-loop) → 0 < c .before .descend .result
 deep c = omega arith
 
 mul-take-away : tie.Need-mul-take-away Inv-loop μ-loop
-mul-take-away c = omega (arith, c .before .before .descend .ensures .stack (deep (c .before)) .short)
+mul-take-away c = omega (arith, c .before .descend .ensures .stack (deep c) .short)
 
 array-read-take-away : tie.Need-array-read-take-away Inv-loop μ-loop
-array-read-take-away c = omega (arith, c .before .before .descend .ensures .stack (deep (c .before)) .short)
+array-read-take-away c = omega (arith, c .before .descend .ensures .stack (deep c) .short)
 
 take-away-requires : tie.Need-take-away-requires Inv-loop μ-loop
 take-away-requires c κs =

@@ -8,10 +8,10 @@ use Rattle.listing.proofs.lines.put_row.Statement.{statement}
 use Rattle.listing.proofs.lines.put_row.Tie as tie
 
 abbrev Inv-loop : tie.InvT-loop
-Inv-loop sheet out₀ at i place₀ j₀ out place j = Pieces out₀ at (pairLine sheet i) mostVertices j out place
+Inv-loop sheet i out₀ at place₀ j₀ out place j = Pieces out₀ at (pairLine sheet i) mostVertices j out place
 
 abbrev μ-loop : tie.MeasureT-loop
-μ-loop sheet out₀ at i place₀ j₀ out place j = mostVertices - j
+μ-loop sheet i out₀ at place₀ j₀ out place j = mostVertices - j
 
 loop-holds : tie.Need-loop-holds Inv-loop μ-loop
 unfolding rowLines
