@@ -7,16 +7,16 @@ use Prim.Native.Nat.{ℕ, _+_, _*_, _%_, _^_, _≤_, _<_}
 use native.Mathlib.Nat.{mod-mod, zero-mul}
 use native.Mathlib.Decide.{decLt, ℕ-discrete}
 use native.Mathlib.Omega.{arith}
-use lib.ListN.{length, List·getD-eq-default}
+use lib.ListN.{length, getD}
 use Rattle.sums.specs.Sum.{sum, delta}
 use Rattle.sums.specs.Modulo.{Congruent}
 use Rattle.sums.proofs.ModuloLaws.{congruent-add, congruent-mul, congruent-sum}
 use Rattle.word.specs.Bit.{bit}
 use Rattle.graph.specs.Count.{pathCount}
 use Rattle.graph.proofs.Recurrence.{pathCount-recurrence, pathCount-cong}
-use Rattle.sheet_theory.specs.Layout.{Shape, rowAt, countAt, edgeAt}
+use Rattle.sheet_theory.specs.Layout.{countsEnd, Shape, rowAt, countAt, edgeAt}
 use Rattle.sheet_theory.specs.Internal.{successorsSum, RowsBelow}
-use Rattle.sheet_theory.proofs.LayoutLaws.{place-apart, redone-ext}
+use Rattle.sheet_theory.proofs.LayoutLaws.{row-counts, place-apart, redone-ext}
 use Rattle.count_rows.specs.Internal.{RowFilled, ColumnsFilled, counted}
 use Rattle.order.specs.Internal.{vertexAt, Ordered}
 use Rattle.order.proofs.OrderLaws.{ordered-acyclic}
@@ -29,10 +29,11 @@ pub record Filled (n : ℕ) (s : List ℕ) (v : ℕ → ℕ) (c w k : ℕ) (t : 
   pub rows : (i : ℕ) → i < n → rowAt t i ≡ rowAt s i
   pub done : (m : ℕ) → m < k → (j : ℕ) → c ≤ j → j < c + w → countAt n t (v m) j ≡ pathCount n (edgeAt s) (v m) j % 2 ^ 64
   pub kept : (i j : ℕ) → i < n → j < n → (j < c) ⊎ (c + w ≤ j) → countAt n t i j ≡ countAt n s i j
+  pub rest : (k : ℕ) → countsEnd n ≤ k → getD t k 0 ≡ getD s k 0
 
 module _ (n : ℕ) (s l : List ℕ) (h : Ordered n s l) (shape : Shape n s) (c w : ℕ) (within : c + w ≤ n) where
   pub filled-start : Filled n s (vertexAt l) c w 0 s
-  filled-start = record { long = refl; rows = λ i q. refl; done = λ m q. absurd (omega arith); kept = λ i j hi hj q. refl }
+  filled-start = record { long = refl; rows = λ i q. refl; done = λ m q. absurd (omega arith); kept = λ i j hi hj q. refl; rest = λ k q. refl }
 
   -- ---- one row more
 
@@ -82,6 +83,7 @@ module _ (n : ℕ) (s l : List ℕ) (h : Ordered n s l) (shape : Shape n s) (c w
             ]
           ];
       kept = λ i j hi hj q. stays i j hj (λ e. q) ∙ f .kept i j hi hj q;
+      rest = λ x q. r .kept x (inr (omega (arith, within, row-counts n (vertexAt l k) (h .order .vertex k hk)))) ∙ f .rest x q;
     }
 
   -- ---- all rows
@@ -92,6 +94,7 @@ module _ (n : ℕ) (s l : List ℕ) (h : Ordered n s l) (shape : Shape n s) (c w
     rows = f .rows;
     filled = λ i j hi hj lo q. let o = h .all i hi in rw (← (o .2)) (f .done (o .0) (omega (arith, o .1)) j lo q);
     kept = f .kept;
+    rest = f .rest;
   }
 
 -- the rows stay, and with them the shape, the order and what the edges lead to
@@ -115,7 +118,7 @@ module _ (n : ℕ) (s t : List ℕ) (long : length t ≡ length s) (rows : (i : 
 -- ---- columns after columns
 
 pub columns-none : (n : ℕ) (s : List ℕ) → ColumnsFilled n s 0 0 s
-columns-none n s = record { long = refl; rows = λ i q. refl; filled = λ i j hi hj lo q. absurd (omega arith); kept = λ i j hi hj q. refl }
+columns-none n s = record { long = refl; rows = λ i q. refl; filled = λ i j hi hj lo q. absurd (omega arith); kept = λ i j hi hj q. refl; rest = λ k q. refl }
 
 -- those below c, and then those from a on, among which are all the next after c
 pub columns-more : (n : ℕ) (s t u : List ℕ) (c a w : ℕ) → ColumnsFilled n s 0 c t → ColumnsFilled n t a w u → a ≤ c
@@ -132,10 +135,10 @@ columns-more n s t u c a w f g low holds =
                 ∙ ap (λ (x : ℕ). x % 2 ^ 64) (pathCount-cong n (edgeAt t) (edgeAt s) (λ x y hx hy. ap (λ (z : ℕ). bit z y) (f .rows x hx)) i j hi)
           ];
       kept = λ i j hi hj q. elim q [ inl p ↦ absurd (omega arith) | inr p ↦ g .kept i j hi hj (inr (omega arith)) ∙ f .kept i j hi hj (inr (omega arith)) ];
+      rest = λ k q. g .rest k q ∙ f .rest k q;
     }
 
-pub columns-all : (n : ℕ) (s t : List ℕ) (c : ℕ) → Shape n s → ColumnsFilled n s 0 c t → n ≤ c → t ≡ counted n s
-columns-all n s t c shape f e =
+pub columns-all : (n : ℕ) (s t : List ℕ) (c : ℕ) → ColumnsFilled n s 0 c t → n ≤ c → t ≡ counted n s
+columns-all n s t c f e =
     redone-ext n (rowAt s) (λ i j. pathCount n (edgeAt s) i j % 2 ^ 64) s t (f .long) (f .rows)
-    (λ i j hi hj. f .filled i j hi hj (omega arith) (omega arith))
-    (λ x q. List·getD-eq-default t 0 (omega (arith, f .long, shape .long)) ∙ sym (List·getD-eq-default s 0 (omega (arith, shape .long))))
+    (λ i j hi hj. f .filled i j hi hj (omega arith) (omega arith)) (f .rest)

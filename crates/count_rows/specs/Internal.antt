@@ -6,7 +6,7 @@ use mathlib.Core.List.{List}
 use Prim.Native.Nat.{ℕ, _+_, _%_, _^_, _≤_, _<_}
 use lib.ListN.{length, getD}
 use Rattle.graph.specs.Count.{pathCount}
-use Rattle.sheet_theory.specs.Layout.{mostVertices, countsFrom, rowAt, countAt, edgeAt, redone}
+use Rattle.sheet_theory.specs.Layout.{mostVertices, countsEnd, countsFrom, rowAt, countAt, edgeAt, redone}
 use Rattle.sheet_theory.specs.Internal.{successorsSum}
 
 -- t has, at each j below n, the count from i to j that the recurrence gives
@@ -30,6 +30,7 @@ pub record ColumnsFilled (n : ℕ) (s : List ℕ) (c w : ℕ) (t : List ℕ) : T
   pub rows : (i : ℕ) → i < n → rowAt t i ≡ rowAt s i
   pub filled : (i j : ℕ) → i < n → j < n → c ≤ j → j < c + w → countAt n t i j ≡ pathCount n (edgeAt s) i j % 2 ^ 64
   pub kept : (i j : ℕ) → i < n → j < n → (j < c) ⊎ (c + w ≤ j) → countAt n t i j ≡ countAt n s i j
+  pub rest : (k : ℕ) → countsEnd n ≤ k → getD t k 0 ≡ getD s k 0
 
 -- s with each count worked out from its rows, modulo 2 ^ 64
 abbrev pub counted : ℕ → List ℕ → List ℕ

@@ -17,7 +17,7 @@ use Rattle.word.proofs.BitLaws.{bit-cases}
 use Rattle.word.proofs.VisitLaws.{Visiting, Passes, visiting-start, visiting-more, visiting-done}
 use Rattle.word.proofs.MaskLaws.{bit-and, bit-or, bit-not}
 use Rattle.sheet_theory.specs.Layout.{size, rowAt, countAt, edgeAt}
-use Rattle.sheet_theory.proofs.LayoutLaws.{length-redone, row-redone, count-redone, rest-redone, redone-ext}
+use Rattle.sheet_theory.proofs.LayoutLaws.{counts-within, length-redone, row-redone, count-redone, rest-redone, redone-ext}
 use Rattle.edit_theory.specs.Edit.{namedAt, marked}
 use Rattle.edit_theory.specs.Outcome.{editedRow}
 use Rattle.edit.specs.Internal.{Marked, rowsEdited}
@@ -77,7 +77,7 @@ module _ (inserts : Bool) (n : ℕ) (s : List ℕ) (v mask : ℕ) where
     marking-more rest i r long was l hr m rest′ e =
         visiting-more n mask _ passes rest was i l _ rest′ e
         (λ h o p.
-        let stored = getD-set-same t i r 0 (omega (arith, p .long)) in
+        let stored = getD-set-same t i r 0 (omega (arith, p .long, counts-within n)) in
         begun-more (set t i r) i p (length-set t i r) (λ k d. getD-set-other t i k r 0 d) (rw stored hr)
         (λ j q. rw (stored, o, ← p .rest i (le-refl i)) (m j q ∙ rw (has-pow v j))))
 
@@ -112,7 +112,7 @@ rows-edited inserts n s t v a b r long hv et hr m =
     row : (i : ℕ) → i < n → rowAt (set t v r) i ≡ editedRow inserts s v a b i
     row i hi =
         elim (ℕ-discrete i v) [
-          | yes e ↦ rw e (getD-set-same t v r 0 (omega (arith, same)) ∙ edited-only inserts s v a b v r hr on-top)
+          | yes e ↦ rw e (getD-set-same t v r 0 (omega (arith, same, counts-within n)) ∙ edited-only inserts s v a b v r hr on-top)
           | no d ↦
               getD-set-other t v i r 0 d
               ∙ was i hi

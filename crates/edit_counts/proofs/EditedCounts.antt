@@ -14,11 +14,11 @@ use Rattle.word.specs.Bit.{bit, Lowest, LowestCleared}
 use Rattle.word.proofs.VisitLaws.{Adding, adding-more, adding-done}
 use Rattle.graph.specs.Update.{fromSum, toSum}
 use Rattle.graph.proofs.Insertion.{from-cong}
-use Rattle.sheet_theory.specs.Layout.{Shape, countsFrom, rowAt, countAt}
+use Rattle.sheet_theory.specs.Layout.{countsEnd, Shape, countsFrom, rowAt, countAt}
 use Rattle.sheet.specs.Internal.{RowBase, RowsSummed}
 use Rattle.sheet.proofs.FillLaws.{length-puts, puts-in, puts-more, over-in, over-out, over-same}
 use Rattle.sheet.proofs.RowLaws.{base-count}
-use Rattle.sheet_theory.proofs.LayoutLaws.{row-within, place-apart, redone-ext, length-redone, row-redone, count-redone, rest-redone}
+use Rattle.sheet_theory.proofs.LayoutLaws.{row-counts, row-within, place-apart, redone-ext, length-redone, row-redone, count-redone, rest-redone}
 use Rattle.edit_theory.specs.Outcome.{editedCount}
 use Rattle.edit_counts.specs.Internal.{toFactor, fromFactor, withFactors, withMultiple, rowEdited, countBy, countsBy, countsEdited}
 use Rattle.edit_counts.proofs.FactorLaws.{edited-by, edited-mod, edited-to}
@@ -163,18 +163,18 @@ module _ (inserts : Bool) (n : ℕ) (s : List ℕ) (v : ℕ) (T : List ℕ) wher
   at-start = record { next = 0; most = omega arith; is = omega (arith, zero-mul n); editing = editing-start inserts n s v 0 T }
 
   module _ (shape : Shape n s) (hv : v < n) (base : ℕ) (t : List ℕ) (was : At inserts n s v T base t) where
-    at-row : base < length s → was .next < n
+    at-row : base < countsEnd n → was .next < n
     at-row h =
         elim (ℕ-discrete (was .next) n) [
           | no d ↦ omega (arith, d, was .most)
-          | yes e ↦ absurd (omega (arith, shape .long, was .is ∙ ap (countsFrom n) e))
+          | yes e ↦ absurd (omega (arith, was .is ∙ ap (countsFrom n) e))
         ]
 
     -- a whole row is left
-    pub at-fits : base < length s → base + n ≤ length s
+    pub at-fits : base < countsEnd n → base + n ≤ length s
     at-fits h = omega (arith, row-within n (was .next) (at-row h), shape .long, was .is)
 
-    pub at-more : (x : ℕ) (w : List ℕ) → base < length s → x ≡ toFactor inserts (getD t (base + v) 0) 0 → w ≡ withMultiple n t base x T
+    pub at-more : (x : ℕ) (w : List ℕ) → base < countsEnd n → x ≡ toFactor inserts (getD t (base + v) 0) 0 → w ≡ withMultiple n t base x T
         → At inserts n s v T (base + n) w
     at-more x w h ex e =
         record {
@@ -186,12 +186,12 @@ module _ (inserts : Bool) (n : ℕ) (s : List ℕ) (v : ℕ) (T : List ℕ) wher
               (e ∙ ap (λ (k : ℕ). withMultiple n t k x T) (was .is));
         }
 
-    pub at-all : length s ≤ base → t ≡ countsBy inserts n s v 0 T
+    pub at-all : countsEnd n ≤ base → t ≡ countsBy inserts n s v 0 T
     at-all h =
         editing-all inserts n s v 0 T (was .next) t (was .editing)
         (elim (ℕ-discrete (was .next) n) [
           | yes e ↦ e
-          | no d ↦ absurd (omega (arith, row-within n (was .next) (omega (arith, d, was .most)), shape .long, was .is))
+          | no d ↦ absurd (omega (arith, row-counts n (was .next) (omega (arith, d, was .most)), shape .low, was .is))
         ])
 
 -- `edit_counts`: the counts by the sums t for the successors b, with k for the predecessors a

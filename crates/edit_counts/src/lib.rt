@@ -87,8 +87,9 @@ fn edit_to(inserts: bool, n: usize, sheet: &mut [u64], v: usize, t: &[u64; Sheet
     requires { ⌜ (Shape n (now sheet)) × (v < n) ⌝ }
     ensures { λ r. ⌜ now (sheet .exit) ≡ countsBy inserts n (now (sheet .entry)) v 0 (now (t .entry)) ⌝ }
 {
+    let end = sheet::layout::counts_end(n);
     let mut base = n;
-    while base < sheet.len() {
+    while base < end {
         let x = sheet[base + v];
         add_multiple(n, sheet, base, to_factor(inserts, x, 0), t);
         base += n;

@@ -7,7 +7,7 @@ use Rattle.word.specs.Bit.{bitCount, ofBits}
 use Rattle.graph.specs.Update.{fromSum, toSum}
 use Rattle.answer.specs.Table.{firstTrue}
 use Rattle.answer.specs.Answers.{answer}
-use Rattle.sheet_theory.specs.Layout.{setBits, build, redoneWord, redone, emptySheet}
+use Rattle.sheet_theory.specs.Layout.{size, setBits, build, redoneWord, redone, emptySheet}
 use Rattle.sheet_theory.specs.Lent.{emptyLent}
 use Rattle.edit_theory.specs.Edit.{Edit, insertEdge, insertEdgesAt}
 use Rattle.edit_theory.specs.Outcome.{some, someEdge, closes, editedRow, editedBy, editedCount, edited}
@@ -17,7 +17,7 @@ pub edits : List Edit
 edits = insertEdgesAt 5 0 0 6 ∷ insertEdge 4 1 3 ∷ insertEdge 5 1 3 ∷ insertEdge 5 3 0 ∷ insertEdge 5 2 3 ∷ []
 
 pub answered-so : answers edits (emptyLent 5) ≡ answer 0 0 2 ∷ answer 2 0 0 ∷ answer 0 0 3 ∷ answer 8 0 0 ∷ answer 0 0 4 ∷ []
-unfolding edits answers emptySheet firstTrue some someEdge closes edited editedRow editedCount editedBy redone redoneWord build ofBits fromSum toSum sum delta setBits bitCount
+unfolding edits answers emptySheet size firstTrue some someEdge closes edited editedRow editedCount editedBy redone redoneWord build ofBits fromSum toSum sum delta setBits bitCount
 answered-so = refl
 
 pub left-so : after edits (emptyLent 5) .words
@@ -28,5 +28,5 @@ pub left-so : after edits (emptyLent 5) .words
     ∷ 0 ∷ 0 ∷ 0 ∷ 1 ∷ 0
     ∷ 0 ∷ 0 ∷ 0 ∷ 0 ∷ 1
     ∷ []
-unfolding edits after emptySheet firstTrue some someEdge closes edited editedRow editedCount editedBy redone redoneWord build ofBits fromSum toSum sum delta
+unfolding edits after emptySheet size firstTrue some someEdge closes edited editedRow editedCount editedBy redone redoneWord build ofBits fromSum toSum sum delta
 left-so = refl

@@ -8,7 +8,7 @@ use Rattle.word.specs.Wrap.{minus}
 use Rattle.graph.specs.Update.{fromSum, toSum}
 use Rattle.answer.specs.Table.{firstTrue}
 use Rattle.answer.specs.Answers.{answer}
-use Rattle.sheet_theory.specs.Layout.{build, redoneWord, redone}
+use Rattle.sheet_theory.specs.Layout.{size, build, redoneWord, redone}
 use Rattle.sheet_theory.specs.Lent.{lent}
 use Rattle.sheet_theory.proofs.Examples.{D}
 use Rattle.edit_theory.specs.Edit.{insertEdge, insertEdgesAt, deleteEdgesAt}
@@ -16,27 +16,27 @@ use Rattle.edit_theory.specs.Outcome.{some, someEdge, editedRow, editedB
 
 -- each number, with the condition of the next one true as well where there is one
 pub other-length : editAnswer (insertEdge 4 4 4) (lent D) ≡ answer 2 0 0
-unfolding D firstTrue
+unfolding D size firstTrue
 other-length = refl
 
 pub no-vertex : editAnswer (insertEdgesAt 5 5 32 0) (lent D) ≡ answer 3 0 0
-unfolding D firstTrue
+unfolding D size firstTrue
 no-vertex = refl
 
 pub stray-into : editAnswer (insertEdgesAt 5 0 33 0) (lent D) ≡ answer 4 0 0
-unfolding D firstTrue
+unfolding D size firstTrue
 stray-into = refl
 
 pub present-into : editAnswer (insertEdgesAt 5 1 1 1) (lent D) ≡ answer 6 0 0
-unfolding D firstTrue some someEdge
+unfolding D size firstTrue some someEdge
 present-into = refl
 
 -- 5 comes before 6: 0 to 0, with 0 to 1 that is there
 pub loop-first : editAnswer (insertEdgesAt 5 0 1 2) (lent D) ≡ answer 5 0 0
-unfolding D firstTrue some someEdge
+unfolding D size firstTrue some someEdge
 loop-first = refl
 
 -- a damaged sheet with an edge from 0 to itself, which both masks name: one bit is cleared, once, and the count is 5 - 50 + 25
 pub struck-once : editAfter (deleteEdgesAt 1 0 1 1) (lent (1 ∷ 5 ∷ [])) ≡ lent (0 ∷ 18446744073709551596 ∷ [])
-unfolding firstTrue some someEdge edited editedRow editedCount editedBy redone redoneWord build ofBits fromSum toSum sum minus
+unfolding size firstTrue some someEdge edited editedRow editedCount editedBy redone redoneWord build ofBits fromSum toSum sum minus
 struck-once = refl

@@ -22,7 +22,7 @@ use Rattle.sheet_theory.specs.Lent.{Lent, lent, Lends}
 use Rattle.sheet_theory.specs.Valid.{Valid}
 use Rattle.sheet_theory.specs.Internal.{RowsBelow}
 use Rattle.sheet_theory.proofs.StrayLaws.{rows-iff}
-use Rattle.sheet_theory.proofs.LayoutLaws.{length-redone, row-redone, count-redone, sheet-ext}
+use Rattle.sheet_theory.proofs.LayoutLaws.{length-redone, row-redone, count-redone, rest-none, sheet-ext}
 use Rattle.sheet_theory.proofs.ValidLaws.{lent-ext}
 use Rattle.edit_theory.specs.Edit.{oneIf}
 use Rattle.edit_theory.specs.Book.{Model, opened}
@@ -83,7 +83,8 @@ fresh-only n w w′ s t h f g =
     (sheet-ext n (s .words) (t .words) (f .long) (g .long)
     (λ i hi. bits-determine n (rowAt (s .words) i) (rowAt (t .words) i) (rows-iff n (s .words) .0 (f .rows) i hi) (rows-iff n (t .words) .0 (g .rows) i hi)
     (λ j hj. f .bits i j hi hj ∙ h i j hi hj ∙ sym (g .bits i j hi hj)))
-    (λ i j hi hj. exactly-only (paths-cong n w w′ h i j _ (f .counts i j hi hj)) (g .counts i j hi hj)))
+    (λ i j hi hj. exactly-only (paths-cong n w w′ h i j _ (f .counts i j hi hj)) (g .counts i j hi hj))
+    (λ k q l. absurd (rest-none n k q l)))
 
 -- no count of 64 vertices and single edges leaves 64 bits
 pub paths-fit : (n : ℕ) (w : ℕ → ℕ → ℕ) → n ≤ 64 → Acyclic n w → ((i j : ℕ) → i < n → j < n → w i j ≤ 1)

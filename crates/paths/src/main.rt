@@ -50,7 +50,7 @@ fn list_graph(k: u64, n: usize, m: usize, text: &[u8]) -> u64 {
         return Refusal::VERTICES;
     }
     let mut words = [0u64; Sheet::WORDS];
-    list_in(&mut words[0..n + n * n], k, n, m, text)
+    list_in(&mut words[0..sheet::layout::word_count(n)], k, n, m, text)
 }
 
 // The graph at the start of a text, listed as graph k: how many lines it has; 0 if there is none, or some of it is refused. A record's

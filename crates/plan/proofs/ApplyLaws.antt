@@ -15,7 +15,7 @@ use Rattle.record.proofs.ReaderLaws.{reading-read, reading-end}
 use Rattle.answer.specs.declared.Answer.{Answer}
 use Rattle.answer.specs.Answers.{answer, decided}
 use Rattle.sheet_theory.specs.Layout.{Shape, setBits}
-use Rattle.sheet_theory.proofs.LayoutLaws.{square-le}
+use Rattle.sheet_theory.proofs.LayoutLaws.{size-le, greatest}
 use Rattle.answer.proofs.AnswerLaws.{decided-old}
 use Rattle.edit_theory.specs.Edit.{edgeEdit, insertEdge, deleteEdge}
 use Rattle.edit_theory.specs.Outcome.{editAnswer, editAfter}
@@ -129,7 +129,7 @@ module _ (n : ℕ) (s plan : List ℕ) where
 
 -- a sheet has at most 4,160 words
 pub sheet-long : (n : ℕ) (s : List ℕ) → Shape n s → length s ≤ 4160
-sheet-long n s h = omega (arith, h .long, h .high, square-le n (h .high))
+sheet-long n s h = omega (arith, h .long, size-le n (h .high), greatest)
 
 -- ---- apply_all: a is what the records answered, and t what they left
 
@@ -138,9 +138,9 @@ module _ (n : ℕ) (s plan : List ℕ) (a : Answer) (t : List ℕ) (h : Reached 
   reached-number = ap (λ (x : Answer). x .number) (h .answered)
 
   -- the words kept aside are those of s, and put back they are s
-  pub all-refused : (a .number ≡ 0 → ⊥) → (z kept u : List ℕ) → length s ≤ length z → kept ≡ paste z 0 s (length s)
-      → length t ≡ length s → u ≡ paste t 0 kept (length t) → AppliedAll n s plan a u
-  all-refused d z kept u w ek et eu = record {
+  pub all-refused : (a .number ≡ 0 → ⊥) → (z kept u : List ℕ) (m : ℕ) → m ≡ length s → length s ≤ length z → kept ≡ paste z 0 s m
+      → length t ≡ length s → u ≡ paste t 0 kept m → AppliedAll n s plan a u
+  all-refused d z kept u m em w ek et eu = record {
     answered = h .answered ∙ ap (λ (x : ℕ). answer (appliedPlan n s plan .number) (appliedPlan n s plan .place) x)
         (sym (decided-old (appliedPlan n s plan .number) _ 0 (λ q. d (reached-number ∙ q))));
     words = back ∙ sym (decided-old (a .number) _ s d);
@@ -149,11 +149,11 @@ module _ (n : ℕ) (s plan : List ℕ) (a : Answer) (t : List ℕ) (h : Reached 
       -- the first words of what is kept, and none of what was there
       back : u ≡ s
       back =
-          let e : length t ≡ 0 + length s = omega arith in
-          let f : 0 + length t ≡ length t = omega arith in
-          let front : take (length t) kept ≡ s
-          = ap₂ (λ (m : ℕ) (l : List ℕ). take m l) e ek ∙ (take-paste z 0 s (length s) (omega arith) (omega arith) ∙ take-length s) in
-          let rest : drop (0 + length t) t ≡ [] = ap (λ (m : ℕ). drop m t) f ∙ drop-length t in
+          let e : m ≡ 0 + length s = omega arith in
+          let f : 0 + m ≡ length t = omega arith in
+          let front : take m kept ≡ s
+          = ap₂ (λ (k : ℕ) (l : List ℕ). take k l) e (rw em at ek) ∙ (take-paste z 0 s (length s) (omega arith) (omega arith) ∙ take-length s) in
+          let rest : drop (0 + m) t ≡ [] = ap (λ (k : ℕ). drop k t) f ∙ drop-length t in
           eu ∙ (ap₂ (λ (x y : List ℕ). x ++ y) front rest ∙ append-nil s)
 
   pub all-accepted : a .number ≡ 0 → (v : ℕ) → v ≡ setBits n t → (r : Answer) → r ≡ answer 0 0 v → AppliedAll n s plan r t

@@ -54,11 +54,12 @@ pub(crate) fn apply_all(n: usize, sheet: &mut [u64], plan: &[u8]) -> Answer
     requires { ⌜ (Shape n (now sheet)) × (length (now plan) % recordBytes ≡ 0) ⌝ }
     ensures { λ r. ⌜ AppliedAll n (now (sheet .entry)) (now (plan .entry)) r (now (sheet .exit)) ⌝ }
 {
+    let words = sheet::layout::word_count(n);
     let mut kept = [0u64; Sheet::WORDS];
-    keep::copy(sheet.len(), sheet, &mut kept);
+    keep::copy(words, sheet, &mut kept);
     let answer = apply(n, sheet, plan);
     if answer.number != 0 {
-        keep::copy(sheet.len(), &kept, sheet);
+        keep::copy(words, &kept, sheet);
         return answer;
     }
     Answer::accepted(sheet::rows::count_set_bits(n, sheet))

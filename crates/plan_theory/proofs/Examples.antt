@@ -11,7 +11,7 @@ use Rattle.record.specs.Record.{insertLetter, deleteLetter, encoded, areDigits,
 use Rattle.answer.specs.Table.{firstTrue}
 use Rattle.answer.specs.Answers.{answer}
 use Rattle.sheet_theory.specs.Lent.{lent}
-use Rattle.sheet_theory.specs.Layout.{setBits, build, redoneWord, redone}
+use Rattle.sheet_theory.specs.Layout.{size, setBits, build, redoneWord, redone}
 use Rattle.sheet_theory.proofs.Examples.{D}
 use Rattle.edit_theory.specs.Outcome.{some, someEdge, closes, editedRow, editedBy, editedCount, edited}
 use Rattle.plan_theory.specs.Records.{numberOn, applied}
@@ -27,12 +27,12 @@ T = encoded deleteLetter
 
 -- `L 04 00`, `L 03 04`: the second record would close a cycle
 pub second-closes : appliedAnswer 5 (appliedPlan 5 (lent D) (L 4 0 ++ L 3 4)) ≡ answer 8 2 0
-unfolding D gather applied numberOn decoded areDigits firstTrue some someEdge closes edited editedRow editedCount editedBy redone redoneWord build ofBits fromSum toSum sum delta setBits bitCount
+unfolding D gather applied numberOn decoded areDigits size firstTrue some someEdge closes edited editedRow editedCount editedBy redone redoneWord build ofBits fromSum toSum sum delta setBits bitCount
 second-closes = refl
 
 -- the first record that is refused counts: 7 at the second, though the third is malformed
 pub absent : appliedAnswer 5 (appliedPlan 5 (lent D) (T 0 1 ++ (T 0 1 ++ (0 ∷ 0 ∷ 0 ∷ 0 ∷ 0 ∷ 0 ∷ 0 ∷ 0 ∷ [])))) ≡ answer 7 2 0
-unfolding D gather applied numberOn decoded areDigits firstTrue some someEdge closes edited editedRow editedCount editedBy redone redoneWord build ofBits fromSum toSum sum delta setBits bitCount
+unfolding D gather applied numberOn decoded areDigits size firstTrue some someEdge closes edited editedRow editedCount editedBy redone redoneWord build ofBits fromSum toSum sum delta setBits bitCount
 absent = refl
 
 -- the plan of D

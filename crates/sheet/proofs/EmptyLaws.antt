@@ -5,30 +5,31 @@ use Prim.Native.Nat.{ℕ, _+_, _*_, _<_}
 use native.Mathlib.Nat.{zero-add}
 use native.Mathlib.Decide.{ℕ-discrete}
 use native.Mathlib.Omega.{arith}
-use lib.ListN.{length, getD, replicate, length-replicate, List·getD-eq-default}
+use lib.ListN.{length, getD, replicate, length-replicate, getD-replicate}
+use lib.Seq.{ext-getD}
 use Rattle.sums.specs.Sum.{delta}
 use Rattle.sums.proofs.SumLaws.{delta-refl, delta-diff}
-use Rattle.sheet_theory.specs.Layout.{Shape, size, countAt, emptySheet}
+use Rattle.sheet_theory.specs.Layout.{size, countAt, emptySheet}
 use Rattle.sheet.specs.Fill.{puts, over}
 use Rattle.sheet.specs.Internal.{diagonalAt}
 use Rattle.sheet.proofs.FillLaws.{length-puts, puts-in, puts-out, over-in}
-use Rattle.sheet_theory.proofs.LayoutLaws.{place-lt, place-only, redone-ext}
+use Rattle.sheet_theory.proofs.LayoutLaws.{counts-within, row-counts, row-within, place-only, redone-ext}
 
-module _ (n : ℕ) (s w t : List ℕ) (h : Shape n s) (ew : w ≡ over s 0 (λ (k : ℕ). 0) (length s)) (et : t ≡ puts w (diagonalAt n) (λ (k : ℕ). 1) n) where
-  cleared-long : length w ≡ length s
-  cleared-long = ap length ew ∙ length-puts s (λ j. 0 + j) (λ k. 0) (length s)
+-- words of which each is set to 0 are zeros
+pub zeros-filled : (m : ℕ) (s w : List ℕ) (k : ℕ) → length s ≡ m → w ≡ over s 0 (λ (j : ℕ). 0) k → k ≡ m → w ≡ replicate m 0
+zeros-filled m s w k es ew ek =
+    let z : List ℕ = over s 0 (λ (j : ℕ). 0) m in
+    ew
+    ∙ rw ek
+    (ext-getD 0 z (replicate m 0) (length-puts s (λ j. 0 + j) (λ j. 0) m ∙ es ∙ sym (length-replicate {A = ℕ} m 0))
+    (λ j q.
+    let l : j < m = omega (arith, length-puts s (λ j. 0 + j) (λ j. 0) m) in
+    subst (λ (x : ℕ). getD z x 0 ≡ 0) (zero-add j) (over-in s 0 (λ (i : ℕ). 0) m j (omega arith) l) ∙ sym (getD-replicate {A = ℕ} m j 0 0 l)))
 
-  cleared-at : (k : ℕ) → k < length s → getD w k 0 ≡ 0
-  cleared-at k q =
-      ap (λ (l : List ℕ). getD l k 0) ew
-      ∙ subst (λ (x : ℕ). getD (over s 0 (λ (i : ℕ). 0) (length s)) x 0 ≡ 0) (zero-add k) (over-in s 0 (λ (i : ℕ). 0) (length s) k (omega arith) q)
-
-  long : length t ≡ size n
-  long = ap length et ∙ length-puts w (diagonalAt n) (λ k. 1) n ∙ cleared-long ∙ h .long
-
+module _ (n : ℕ) (w t : List ℕ) (ew : w ≡ replicate (size n) 0) (et : t ≡ puts w (diagonalAt n) (λ (k : ℕ). 1) n) where
   -- a place that is on no diagonal
-  off : (k : ℕ) → k < size n → ((i : ℕ) → i < n → k ≡ diagonalAt n i → ⊥) → getD t k 0 ≡ 0
-  off k q d = ap (λ (l : List ℕ). getD l k 0) et ∙ puts-out w (diagonalAt n) (λ i. 1) n k d ∙ cleared-at k (omega (arith, h .long))
+  off : (k : ℕ) → ((i : ℕ) → i < n → k ≡ diagonalAt n i → ⊥) → getD t k 0 ≡ getD (replicate (size n) 0) k 0
+  off k d = ap (λ (l : List ℕ). getD l k 0) et ∙ puts-out w (diagonalAt n) (λ i. 1) n k d ∙ ap (λ (l : List ℕ). getD l k 0) ew
 
   count : (i j : ℕ) → i < n → j < n → countAt n t i j ≡ delta i j
   count i j hi hj =
@@ -36,15 +37,15 @@ module _ (n : ℕ) (s w t : List ℕ) (h : Shape n s) (ew : w ≡ over s 0 (λ (
         | yes e ↦
             rw (← e, delta-refl i)
             (ap (λ (l : List ℕ). getD l (diagonalAt n i) 0) et
-            ∙ puts-in w (diagonalAt n) (λ k. 1) n i hi (omega (arith, cleared-long, h .long, place-lt n i i hi hi)) (λ k r l q. omega (arith, place-only n i i k k hi r q .0)))
+            ∙ puts-in w (diagonalAt n) (λ k. 1) n i hi (omega (arith, ap length ew, length-replicate {A = ℕ} (size n) 0, row-within n i hi)) (λ k r l q. omega (arith, place-only n i i k k hi r q .0)))
         | no ne ↦
             rw (delta-diff i j ne)
-            (off (n + i * n + j) (place-lt n i j hi hj) (λ k r q. let p = place-only n i j k k hj r q in ne (p .0 ∙ sym (p .1))))
+            (off (n + i * n + j) (λ k r q. let p = place-only n i j k k hj r q in ne (p .0 ∙ sym (p .1))) ∙ getD-replicate {A = ℕ} (size n) _ 0 0 (omega (arith, row-within n i hi)))
       ]
 
   pub empty-filled : t ≡ emptySheet n
   unfolding emptySheet
   empty-filled =
-      redone-ext n (λ i. 0) delta (replicate (size n) 0) t (long ∙ sym (length-replicate {A = ℕ} (size n) 0))
-      (λ i q. off i (omega arith) (λ j r e. omega arith)) count
-      (λ k q. List·getD-eq-default t 0 (omega (arith, long)) ∙ sym (List·getD-eq-default (replicate (size n) 0) 0 (omega (arith, length-replicate {A = ℕ} (size n) 0))))
+      redone-ext n (λ i. 0) delta (replicate (size n) 0) t (ap length et ∙ length-puts w (diagonalAt n) (λ k. 1) n ∙ ap length ew)
+      (λ i q. off i (λ j r e. omega arith) ∙ getD-replicate {A = ℕ} (size n) i 0 0 (omega (arith, counts-within n))) count
+      (λ k q. off k (λ i r e. omega (arith, row-counts n i r)))

@@ -6,7 +6,7 @@ use Prim.Native.Nat.{ℕ, _+_, _*_, _%_, _^_, _≤_, _<_}
 use lib.ListN.{length, getD}
 use Rattle.sums.specs.Sum.{sum}
 use Rattle.word.specs.Bit.{bit}
-use Rattle.sheet_theory.specs.Layout.{mostVertices, size, countsFrom, countPlace, countAt}
+use Rattle.sheet_theory.specs.Layout.{mostVertices, countsEnd, size, countsFrom, countPlace, countAt}
 
 -- ---- places
 
@@ -14,13 +14,13 @@ use Rattle.sheet_theory.specs.Layout.{mostVertices, size, countsFrom, countPlac
 pub record RowBase (n i r : ℕ) : Type 0 where
   pub is : r ≡ countsFrom n i
   pub within : r + n ≤ size n
-  pub small : r + n ≤ size mostVertices
+  pub small : r + n ≤ countsEnd mostVertices
 
 -- r is the place of the count from i to j, within a sheet
 pub record Place (n i j r : ℕ) : Type 0 where
   pub is : r ≡ countPlace n i j
   pub within : r < size n
-  pub small : r < size mostVertices
+  pub small : r < countsEnd mostVertices
 
 -- where the count from i to itself stands
 abbrev pub diagonalAt : ℕ → ℕ → ℕ

@@ -1,18 +1,20 @@
 // The empty sheet, written.
 ghost use mathlib.Core.Path.{_≡_};
 ghost use Prim.Native.Nat.{ℕ};
-ghost use lib.ListN.{length};
-ghost use Rattle.sheet_theory.specs.Layout.{Shape, emptySheet};
-ghost use Rattle.sheet.specs.Fill.{puts, over};
+ghost use lib.ListN.{replicate};
+ghost use Rattle.sheet_theory.specs.Layout.{size, Shape, emptySheet};
+ghost use Rattle.sheet.specs.Fill.{puts};
 ghost use Rattle.sheet.specs.Internal.{diagonalAt};
 use crate::layout;
 
 // Every word 0.
-fn clear(sheet: &mut [u64])
-    ensures { λ r. ⌜ now (sheet .exit) ≡ over (now (sheet .entry)) 0 (λ (k : ℕ). 0) (length (now (sheet .entry))) ⌝ }
+fn clear(n: usize, sheet: &mut [u64])
+    requires { ⌜ Shape n (now sheet) ⌝ }
+    ensures { λ r. ⌜ now (sheet .exit) ≡ replicate (size n) 0 ⌝ }
 {
+    let words = layout::word_count(n);
     let mut k = 0;
-    while k < sheet.len() {
+    while k < words {
         sheet[k] = 0;
         k += 1;
     }
@@ -36,6 +38,6 @@ pub(crate) fn fill_empty(n: usize, sheet: &mut [u64])
     requires { ⌜ Shape n (now sheet) ⌝ }
     ensures { λ r. ⌜ now (sheet .exit) ≡ emptySheet n ⌝ }
 {
-    clear(sheet);
+    clear(n, sheet);
     diagonal(n, sheet);
 }

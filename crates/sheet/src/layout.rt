@@ -1,7 +1,7 @@
 // The layout of a sheet: where each row and each count is stored; and the sheet's own type.
 ghost use mathlib.Core.Path.{_≡_};
 ghost use Prim.Native.Nat.{_≤_, _<_};
-ghost use Rattle.sheet_theory.specs.Layout.{mostVertices, size, Shape, countAt, emptySheet};
+ghost use Rattle.sheet_theory.specs.Layout.{mostVertices, countsEnd, size, Shape, countAt, emptySheet};
 ghost use Rattle.sheet.specs.Internal.{Place, RowBase};
 use crate::fill;
 
@@ -28,12 +28,20 @@ impl Sheet {
     }
 }
 
-// How many words a sheet of n vertices has.
-pub(crate) fn word_count(n: usize) -> usize
+// Internal: where the counts end.
+pub fn counts_end(n: usize) -> usize
+    requires { ⌜ n ≤ mostVertices ⌝ }
+    ensures { λ r. ⌜ r ≡ countsEnd n ⌝ }
+{
+    n + n * n
+}
+
+// Internal: how many words a sheet of n vertices has.
+pub fn word_count(n: usize) -> usize
     requires { ⌜ n ≤ mostVertices ⌝ }
     ensures { λ r. ⌜ r ≡ size n ⌝ }
 {
-    n + n * n
+    counts_end(n)
 }
 
 // Internal: where the counts from vertex i begin.

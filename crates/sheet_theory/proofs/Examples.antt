@@ -6,13 +6,9 @@ use Rattle.sums.specs.Sum.{sum, delta}
 use Rattle.word.specs.Bit.{bitCount}
 use Rattle.sheet_theory.specs.Layout.{size, setBits, build, redoneWord, redone, emptySheet}
 
--- the greatest sheet has 4,160 words
-pub greatest : size 64 ≡ 4160
-greatest = refl
-
 -- the empty sheet of one vertex: no edge, and one path from the vertex to itself
 pub one : emptySheet 1 ≡ 0 ∷ 1 ∷ []
-unfolding emptySheet redone redoneWord build delta
+unfolding emptySheet redone redoneWord build delta size
 one = refl
 
 -- a stray bit counts

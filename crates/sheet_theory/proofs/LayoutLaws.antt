@@ -8,18 +8,29 @@ use native.Mathlib.Nat.{not-suc-le-zero, le-of-suc-le-suc, div-lt-iff-lt-mul, mo
 use native.Mathlib.Decide.{decLt}
 use native.Mathlib.Omega.{arith}
 use borrow.Author.Tests.{lt-ltb, le-ltb}
-use lib.Arith.{digits-div, digits-mod, digits-lt}
+use lib.Arith.{digits-div, digits-mod}
 use lib.ListN.{length, getD, List·getD-eq-default}
 use lib.Seq.{ext-getD}
-use Rattle.sheet_theory.specs.Layout.{size, rowAt, countAt, build, redoneWord, redone}
+use Rattle.sheet_theory.specs.Layout.{mostVertices, countsEnd, size, Shape, rowAt, countAt, build, redoneWord, redone}
 
--- ---- places
+-- ---- how many words a sheet has: beside these laws no law looks into `size`
 
-pub square-le : (n : ℕ) → n ≤ 64 → n * n ≤ 4096
-square-le n h = mul-le-mul h h
+-- the rows and the counts are within a sheet
+pub counts-within : (n : ℕ) → countsEnd n ≤ size n
+unfolding size
+counts-within n = omega arith
+
+pub rows-within : {n : ℕ} {s : List ℕ} → Shape n s → n ≤ length s
+rows-within {n} h = omega (arith, counts-within n)
+
+-- and nothing stands after them
+pub rest-none : (n k : ℕ) → countsEnd n ≤ k → k < size n → ⊥
+unfolding size
+rest-none n k h q = omega arith
 
 -- the words of a sheet tell its vertices: one vertex more is a word more at least
 size-lt : (n k : ℕ) → n < k → size n < size k
+unfolding size
 size-lt n k h = omega (arith, mul-le-mul (le-of-lt h) (le-of-lt h))
 
 pub size-only : (n k : ℕ) → size n ≡ size k → n ≡ k
@@ -29,12 +40,26 @@ size-only n k e =
       | no l ↦ elim (decLt k n) [ yes q ↦ absurd (omega (arith, size-lt k n q)) | no q ↦ omega arith ]
     ]
 
--- a place among the counts is within a sheet
-pub place-lt : (n i j : ℕ) → i < n → j < n → n + i * n + j < size n
-place-lt n i j hi hj = omega (arith, digits-lt {q = i} {m = n} {r = j} {c = n} hi hj)
+pub counts-le : (n : ℕ) → n ≤ mostVertices → countsEnd n ≤ countsEnd mostVertices
+counts-le n h = omega (arith, mul-le-mul h h)
+
+pub size-le : (n : ℕ) → n ≤ mostVertices → size n ≤ size mostVertices
+unfolding size
+size-le n h = omega (arith, counts-le n h)
+
+-- the greatest sheet has 4,160 words
+pub greatest : size mostVertices ≡ 4160
+unfolding size
+greatest = refl
+
+-- ---- places
+
+-- the counts from i are among the counts, so within a sheet
+pub row-counts : (n i : ℕ) → i < n → n + i * n + n ≤ countsEnd n
+row-counts n i h = omega (arith, suc-mul i n, mul-le-mul-right n h)
 
 pub row-within : (n i : ℕ) → i < n → n + i * n + n ≤ size n
-row-within n i h = omega (arith, place-lt n i (n - 1) h (omega arith))
+row-within n i h = omega (arith, row-counts n i h, counts-within n)
 
 -- a place tells its row and its column
 pub place-only : (n i j k m : ℕ) → j < n → m < n → n + i * n + j ≡ n + k * n + m → (i ≡ k) × (j ≡ m)
@@ -80,12 +105,12 @@ module _ (n : ℕ) (r : ℕ → ℕ) (c : ℕ → ℕ → ℕ) (s : List ℕ) wh
   unfolding redoneWord
   word-count i j hi hj =
       let e : n + i * n + j - n ≡ i * n + j = omega arith in
-      simp (le-ltb (n + i * n + j) n (omega arith), lt-ltb (n + i * n + j) (n + n * n) (place-lt n i j hi hj))
+      simp (le-ltb (n + i * n + j) n (omega arith), lt-ltb (n + i * n + j) (countsEnd n) (omega (arith, row-counts n i hi)))
       (ap (λ (x : ℕ). c (x / n) (x % n)) e ∙ ap₂ c (digits-div i hj) (digits-mod i hj))
 
-  word-rest : (k : ℕ) → n + n * n ≤ k → redoneWord n r c s k ≡ getD s k 0
+  word-rest : (k : ℕ) → countsEnd n ≤ k → redoneWord n r c s k ≡ getD s k 0
   unfolding redoneWord
-  word-rest k h = simp (le-ltb k n (omega arith), le-ltb k (n + n * n) h)
+  word-rest k h = simp (le-ltb k n (omega arith), le-ltb k (countsEnd n) h)
 
   pub length-redone : length (redone n r c s) ≡ length s
   unfolding redone
@@ -94,13 +119,13 @@ module _ (n : ℕ) (r : ℕ → ℕ) (c : ℕ → ℕ → ℕ) (s : List ℕ) wh
   module _ (long : length s ≡ size n) where
     pub row-redone : (i : ℕ) → i < n → rowAt (redone n r c s) i ≡ r i
     unfolding redone
-    row-redone i h = getD-build (length s) (redoneWord n r c s) i (omega arith) ∙ word-row i h
+    row-redone i h = getD-build (length s) (redoneWord n r c s) i (omega (arith, counts-within n)) ∙ word-row i h
 
     pub count-redone : (i j : ℕ) → i < n → j < n → countAt n (redone n r c s) i j ≡ c i j
     unfolding redone
-    count-redone i j hi hj = getD-build (length s) (redoneWord n r c s) (n + i * n + j) (omega (arith, place-lt n i j hi hj)) ∙ word-count i j hi hj
+    count-redone i j hi hj = getD-build (length s) (redoneWord n r c s) (n + i * n + j) (omega (arith, row-within n i hi)) ∙ word-count i j hi hj
 
-  pub rest-redone : (k : ℕ) → n + n * n ≤ k → getD (redone n r c s) k 0 ≡ getD s k 0
+  pub rest-redone : (k : ℕ) → countsEnd n ≤ k → getD (redone n r c s) k 0 ≡ getD s k 0
   unfolding redone
   rest-redone k h =
       elim (decLt k (length s)) [
@@ -112,7 +137,7 @@ module _ (n : ℕ) (r : ℕ → ℕ) (c : ℕ → ℕ → ℕ) (s : List ℕ) wh
   pub redone-ext : (t : List ℕ) → length t ≡ length s
       → ((i : ℕ) → i < n → rowAt t i ≡ r i)
       → ((i j : ℕ) → i < n → j < n → countAt n t i j ≡ c i j)
-      → ((k : ℕ) → n + n * n ≤ k → getD t k 0 ≡ getD s k 0)
+      → ((k : ℕ) → countsEnd n ≤ k → getD t k 0 ≡ getD s k 0)
       → t ≡ redone n r c s
   unfolding redone
   redone-ext t e hr hc hk = build-ext (length s) (redoneWord n r c s) t e at
@@ -121,7 +146,7 @@ module _ (n : ℕ) (r : ℕ → ℕ) (c : ℕ → ℕ → ℕ) (s : List ℕ) wh
       at k h =
           elim (decLt k n) [
             | yes p ↦ hr k p ∙ sym (word-row k p)
-            | no p ↦ elim (decLt k (n + n * n)) [
+            | no p ↦ elim (decLt k (countsEnd n)) [
               | yes q ↦
                   let i : ℕ = (k - n) / n in
                   let j : ℕ = (k - n) % n in
@@ -134,13 +159,15 @@ module _ (n : ℕ) (r : ℕ → ℕ) (c : ℕ → ℕ → ℕ) (s : List ℕ) wh
             ]
           ]
 
--- two sheets with the same rows and the same counts are the same
+-- two sheets with the same rows, the same counts and the same words after them are the same
 pub sheet-ext : (n : ℕ) (s t : List ℕ) → length s ≡ size n → length t ≡ size n
-    → ((i : ℕ) → i < n → rowAt s i ≡ rowAt t i) → ((i j : ℕ) → i < n → j < n → countAt n s i j ≡ countAt n t i j) → s ≡ t
-sheet-ext n s t es et hr hc = same s es (λ i hi. refl) (λ i j hi hj. refl) ∙ sym (same t et (λ i hi. sym (hr i hi)) (λ i j hi hj. sym (hc i j hi hj)))
-  where
-    same : (u : List ℕ) → length u ≡ size n → ((i : ℕ) → i < n → rowAt u i ≡ rowAt s i)
-        → ((i j : ℕ) → i < n → j < n → countAt n u i j ≡ countAt n s i j) → u ≡ redone n (rowAt s) (countAt n s) s
-    same u eu hr hc =
-        redone-ext n (rowAt s) (countAt n s) s u (eu ∙ sym es) hr hc
-        (λ k q. List·getD-eq-default u 0 (omega arith) ∙ sym (List·getD-eq-default s 0 (omega arith)))
+    → ((i : ℕ) → i < n → rowAt s i ≡ rowAt t i) → ((i j : ℕ) → i < n → j < n → countAt n s i j ≡ countAt n t i j)
+    → ((k : ℕ) → countsEnd n ≤ k → k < size n → getD s k 0 ≡ getD t k 0) → s ≡ t
+sheet-ext n s t es et hr hc hk =
+    redone-ext n (rowAt t) (countAt n t) t s (es ∙ sym et) hr hc
+    (λ k q.
+    elim (decLt k (size n)) [
+      | yes l ↦ hk k q l
+      | no l ↦ List·getD-eq-default s 0 (omega arith) ∙ sym (List·getD-eq-default t 0 (omega arith))
+    ])
+    ∙ sym (redone-ext n (rowAt t) (countAt n t) t t refl (λ i hi. refl) (λ i j hi hj. refl) (λ k q. refl))

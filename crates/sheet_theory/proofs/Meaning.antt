@@ -26,7 +26,7 @@ use Rattle.sheet_theory.specs.Calls.{emptyAnswer, emptyAfter, pathCountA
 use Rattle.sheet_theory.specs.Internal.{successorsSum, RowHolds}
 use Rattle.sheet_theory.proofs.ShapeLaws.{accepted-shape, shape-passed, vertex-good}
 use Rattle.sheet_theory.proofs.StrayLaws.{rows-iff}
-use Rattle.sheet_theory.proofs.LayoutLaws.{place-lt, length-redone, row-redone, count-redone}
+use Rattle.sheet_theory.proofs.LayoutLaws.{row-within, length-redone, row-redone, count-redone}
 use Rattle.sheet_theory.proofs.ValidLaws.{edge-le, valid-iff-holds, valid-only}
 use Rattle.sheet_theory.proofs.Refusals.{empty-table, path-count-table}
 
@@ -111,4 +111,4 @@ pub valid-changed : (n : ℕ) (s : Lent) → Valid n s → (i j x : ℕ) → i <
 valid-changed n s v i j x hi hj d v′ =
     let w = s .words in
     let e = valid-only n (lent (set w (n + i * n + j) x)) s v′ v (λ k hk. getD-set-other w (n + i * n + j) k x 0 (λ q. omega arith)) in
-    d (sym (getD-set-same w (n + i * n + j) x 0 (omega (arith, place-lt n i j hi hj, v .shape .long))) ∙ ap (λ (l : Lent). countAt n (l .words) i j) e)
+    d (sym (getD-set-same w (n + i * n + j) x 0 (omega (arith, row-within n i hi, v .shape .long))) ∙ ap (λ (l : Lent). countAt n (l .words) i j) e)

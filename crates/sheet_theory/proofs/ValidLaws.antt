@@ -27,7 +27,7 @@ use Rattle.sheet_theory.specs.Internal.{successorsSum, RowHolds}
 use Rattle.answer.proofs.TableLaws.{first-rest}
 use Rattle.answer.proofs.ByNumber.{first-not}
 use Rattle.sheet_theory.proofs.ShapeLaws.{accepted-shape, shape-passed, shape-rest}
-use Rattle.sheet_theory.proofs.LayoutLaws.{sheet-ext}
+use Rattle.sheet_theory.proofs.LayoutLaws.{rest-none, sheet-ext}
 
 pub edge-le : (s : List ℕ) (i j : ℕ) → edgeAt s i j ≤ 1
 edge-le s i j = omega (arith, bit-lt (rowAt s i) j)
@@ -87,7 +87,8 @@ valid-only n s t v v′ h =
     (λ i j hi hj.
     valid-count n s v i j hi hj
     ∙ pathCount-cong n (edgeAt (s .words)) (edgeAt (t .words)) (λ a b ha hb. ap (λ x. bit x b) (h a ha)) i j hi
-    ∙ sym (valid-count n t v′ i j hi hj)))
+    ∙ sym (valid-count n t v′ i j hi hj))
+    (λ k q l. absurd (rest-none n k q l)))
 
 -- ---- what a call that wants a valid sheet looks for
 

@@ -12,9 +12,13 @@ use Rattle.word.specs.Bit.{bit, bitCount}
 abbrev pub mostVertices : ℕ
 mostVertices = 64
 
+-- where the counts end
+abbrev pub countsEnd : ℕ → ℕ
+countsEnd n = n + n * n
+
 -- how many words a sheet has
-abbrev pub size : ℕ → ℕ
-size n = n + n * n
+unfoldable pub size : ℕ → ℕ
+size n = countsEnd n
 
 -- s has the shape of a sheet of n vertices
 pub record Shape (n : ℕ) (s : List ℕ) : Type 0 where
@@ -53,7 +57,7 @@ build (suc m) f = f 0 ∷ build m (λ k. f (suc k))
 
 -- word k of s with row i as r i and the count from i to j as c i j
 unfoldable pub redoneWord : ℕ → (ℕ → ℕ) → (ℕ → ℕ → ℕ) → List ℕ → ℕ → ℕ
-redoneWord n r c s k = cond (ltb k n) (r k) (cond (ltb k (n + n * n)) (c ((k - n) / n) ((k - n) % n)) (getD s k 0))
+redoneWord n r c s k = cond (ltb k n) (r k) (cond (ltb k (countsEnd n)) (c ((k - n) / n) ((k - n) % n)) (getD s k 0))
 
 -- s with row i as r i and the count from i to j as c i j, and every other word as it was
 unfoldable pub redone : ℕ → (ℕ → ℕ) → (ℕ → ℕ → ℕ) → List ℕ → List ℕ

@@ -5,6 +5,7 @@ use Prim.Native.Nat.{ℕ, _-_, _≤_, _<_}
 use native.Mathlib.Omega.{arith}
 use borrow.Author.Count.{below-more}
 use borrow.Author.Tests.{not-false}
+use Rattle.sheet_theory.proofs.LayoutLaws.{rows-within}
 use Rattle.order.specs.Internal.{vertexAt}
 use Rattle.count_rows.proofs.RowLaws.{each-fails, each-holds}
 use Rattle.count_blocks.proofs.BlockLaws.{Unled, unled-start, leading-below, VertexHolds, vertex-holds, compared-more, block-of}
@@ -35,7 +36,7 @@ mul-mask c =
 shared-slice-read-mask : tie.Need-shared-slice-read-mask Inv-loop μ-loop
 shared-slice-read-mask c =
     let a = c .before .before .before .before .before .before .pre in
-    omega (arith, a .2 .order .vertex (c .before .before .before .loop .k) (omega arith), a .0 .shape .long)
+    omega (arith, a .2 .order .vertex (c .before .before .before .loop .k) (omega arith), rows-within (a .0 .shape))
 
 lead-requires : tie.Need-lead-requires Inv-loop μ-loop
 lead-requires c κs =

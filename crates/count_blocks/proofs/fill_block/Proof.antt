@@ -3,6 +3,7 @@
 use mathlib.Core.Path.{refl}
 use Prim.Native.Nat.{_-_, _≤_}
 use native.Mathlib.Omega.{arith}
+use Rattle.sheet_theory.proofs.LayoutLaws.{rows-within}
 use Rattle.order.specs.Internal.{vertexAt}
 use Rattle.count_rows.proofs.FilledLaws.{Filled, filled-start, filled-all, same-shape, same-below}
 use Rattle.count_blocks.proofs.BlockLaws.{Unled, unled-start, leading-below, filling-more}
@@ -36,7 +37,7 @@ slice-read-mask : tie.Need-slice-read-mask Inv-loop μ-loop
 slice-read-mask c =
     let a = c .before .before .before .before .before .before .pre in
     let l = c .before .before .before .loop in
-    omega (arith, a .2 .order .vertex (l .k) (omega arith), l .inv .1 .long, a .0 .shape .long)
+    omega (arith, a .2 .order .vertex (l .k) (omega arith), l .inv .1 .long, rows-within (a .0 .shape))
 
 lead-requires : tie.Need-lead-requires Inv-loop μ-loop
 lead-requires c κs =

@@ -39,7 +39,7 @@ same-length : tie.Need-same-length Inv-loop μ-loop
 same-length c = c .before .loop .inv .1 .long
 
 returns : tie.Need-returns Inv-loop μ-loop
-returns c = columns-all _ _ _ _ (c .before .before .before .before .pre .0) (c .before .loop .inv .1) (omega arith)
+returns c = columns-all _ _ _ _ (c .before .loop .inv .1) (omega arith)
 
 pub fill-blocks-spec : {M : Type 1} → statement M
 fill-blocks-spec =

@@ -37,7 +37,7 @@ returns : tie.Need-returns Inv-loop μ-loop
 returns c =
     let a = c .before .before .before in
     let all = filled-all _ _ _ (a .pre .2) (a .pre .0) 0 _ (omega arith) _ _ (c .before .loop .inv .1) (omega arith) in
-    columns-all _ _ _ _ (a .pre .0) all (omega arith)
+    columns-all _ _ _ _ all (omega arith)
 
 pub fill-rows-spec : {M : Type 1} → statement M
 fill-rows-spec =

@@ -1,6 +1,7 @@
 -- `count_rows::sum_successors` meets its contract: the rows of the successors of i are added up, with one at i. Assumes nothing.
 use native.Mathlib.Omega.{arith}
 use borrow.Author.Needs.{needs}
+use Rattle.sheet_theory.proofs.LayoutLaws.{rows-within}
 use Rattle.count_rows.proofs.RowLaws.{successors-summed}
 use Rattle.count_rows.proofs.sum_successors.Statement.{statement}
 use Rattle.count_rows.proofs.sum_successors.Tie as tie
@@ -11,5 +12,5 @@ returns c = search (successors-summed, arith)
 pub sum-successors-spec : {M : Type 1} → statement M
 sum-successors-spec =
     tie.close
-    (tie.spec (λ c. search needs) (λ c. search needs) (λ c κs. search needs) (λ c. search needs) (λ c. search needs) (λ c κs. search needs)
+    (tie.spec (λ c. search needs) (λ c. omega (arith, rows-within)) (λ c κs. search needs) (λ c. search needs) (λ c. search needs) (λ c κs. search needs)
     (λ c. search needs) (λ c. search needs) returns)

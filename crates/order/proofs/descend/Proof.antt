@@ -2,6 +2,7 @@
 -- Assumes nothing.
 use Prim.Native.Nat.{_-_, _<_}
 use native.Mathlib.Omega.{arith}
+use Rattle.sheet_theory.proofs.LayoutLaws.{rows-within}
 use Rattle.order.specs.Internal.{Stack, Ahead}
 use Rattle.order.proofs.StackLaws.{ahead-vertex, stack-more, ahead-more, stack-cycle, descended, descended-cycle}
 use Rattle.order.proofs.descend.Statement.{statement}
@@ -39,7 +40,7 @@ mul-next : tie.Need-mul-next Inv-loop μ-loop
 mul-next c = omega (arith, vertex c)
 
 shared-slice-read-next : tie.Need-shared-slice-read-next Inv-loop μ-loop
-shared-slice-read-next c = omega (arith, vertex (c .before))
+shared-slice-read-next c = omega (arith, vertex (c .before), rows-within)
 
 loop-again : tie.Need-loop-again Inv-loop μ-loop
 loop-again c =

@@ -2,6 +2,7 @@
 use Prim.Native.Nat.{_-_, _<_}
 use native.Mathlib.Omega.{arith}
 use borrow.Author.Needs.{needs}
+use Rattle.sheet_theory.proofs.LayoutLaws.{rows-within}
 use Rattle.order.specs.Internal.{vertexAt}
 use Rattle.order.proofs.StackLaws.{stack-vertex, ahead-first, ahead-later}
 use Rattle.order.proofs.look_ahead.Statement.{statement}
@@ -14,7 +15,7 @@ mul-result : tie.Need-mul-result
 mul-result c = omega (arith, last-lt (c .before))
 
 shared-slice-read-result : tie.Need-shared-slice-read-result
-shared-slice-read-result c = omega (arith, last-lt (c .before .before))
+shared-slice-read-result c = omega (arith, last-lt (c .before .before), rows-within)
 
 returns : tie.Need-returns
 returns c = ahead-first _ _ _ _ (c .if1 .taken)

@@ -1,6 +1,7 @@
 -- `edit::checks::some_edge` meets its contract: each way out is a law of CheckLaws. Assumes nothing.
 use native.Mathlib.Omega.{arith}
 use borrow.Author.Needs.{needs}
+use Rattle.sheet_theory.proofs.LayoutLaws.{rows-within}
 use Rattle.edit.proofs.CheckLaws.{edge-into, edge-out}
 use Rattle.edit.proofs.checks.some_edge.Statement.{statement}
 use Rattle.edit.proofs.checks.some_edge.Tie as tie
@@ -21,4 +22,4 @@ returns-2 c =
     (c .clashes .ensures)
 
 pub some-edge-spec : {M : Type 1} → statement M
-some-edge-spec = tie.close (tie.spec (λ c κs. search needs) returns (λ c. search needs) (λ c. search needs) (λ c κs. search needs) returns-2)
+some-edge-spec = tie.close (tie.spec (λ c κs. search needs) returns (λ c. search needs) (λ c. omega (arith, rows-within)) (λ c κs. search needs) returns-2)

@@ -5,6 +5,7 @@ use native.Mathlib.Omega.{arith}
 use borrow.Author.Needs.{needs}
 use borrow.Author.Tests.{eqb-true, eqb-false}
 use Rattle.sheet_theory.specs.Layout.{edgeAt}
+use Rattle.sheet_theory.proofs.LayoutLaws.{rows-within}
 use Rattle.answer.proofs.TableLaws.{reflects-false}
 use Rattle.word.proofs.CountLaws.{lowest-cleared-lt}
 use Rattle.edit_theory.specs.Edit.{oneIf}
@@ -26,7 +27,7 @@ lowest-bit-requires : tie.Need-lowest-bit-requires Inv-loop μ-loop
 lowest-bit-requires c κs = omega (arith, eqb-false)
 
 shared-slice-read-clashes : tie.Need-shared-slice-read-clashes Inv-loop μ-loop
-shared-slice-read-clashes c = omega (arith, searching-below _ _ _ _ _ (c .before .before .before .loop .inv) (c .before .lowest-bit .ensures))
+shared-slice-read-clashes c = omega (arith, rows-within, searching-below _ _ _ _ _ (c .before .before .before .loop .inv) (c .before .lowest-bit .ensures))
 
 returns : tie.Need-returns Inv-loop μ-loop
 returns c =

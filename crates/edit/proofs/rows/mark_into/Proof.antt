@@ -4,6 +4,7 @@ use native.Mathlib.Omega.{arith}
 use borrow.Author.Tests.{eqb-true, eqb-false}
 use Rattle.word.proofs.CountLaws.{lowest-lt, lowest-cleared-lt}
 use Rattle.word.proofs.MaskLaws.{one-shl}
+use Rattle.sheet_theory.proofs.LayoutLaws.{rows-within}
 use Rattle.edit.proofs.EditedRows.{Marking, marking-start, marking-more, marking-done}
 use Rattle.edit.proofs.rows.mark_into.Statement.{statement}
 use Rattle.edit.proofs.rows.mark_into.Tie as tie
@@ -24,7 +25,7 @@ mul-mark : tie.Need-mul-mark Inv-loop μ-loop
 mul-mark c = record { fits = omega arith }
 
 slice-read-mark : tie.Need-slice-read-mark Inv-loop μ-loop
-slice-read-mark c = let l = c .before .before .before .loop in omega (arith, lowest-lt _ _ _ (c .before .lowest-bit .ensures) (l .inv .below), l .inv .known .long)
+slice-read-mark c = let l = c .before .before .before .loop in omega (arith, lowest-lt _ _ _ (c .before .lowest-bit .ensures) (l .inv .below), l .inv .known .long, rows-within)
 
 mark-requires : tie.Need-mark-requires Inv-loop μ-loop
 mark-requires c κs = tt
@@ -33,7 +34,7 @@ mul-sheet : tie.Need-mul-sheet Inv-loop μ-loop
 mul-sheet c = record { fits = omega arith }
 
 slice-write-sheet : tie.Need-slice-write-sheet Inv-loop μ-loop
-slice-write-sheet c = let l = c .before .before .before .before .loop in omega (arith, lowest-lt _ _ _ (c .before .before .lowest-bit .ensures) (l .inv .below), l .inv .known .long)
+slice-write-sheet c = let l = c .before .before .before .before .loop in omega (arith, lowest-lt _ _ _ (c .before .before .lowest-bit .ensures) (l .inv .below), l .inv .known .long, rows-within)
 
 loop-less : tie.Need-loop-less Inv-loop μ-loop
 loop-less c = lowest-cleared-lt _ _ _ (c .before .before .before .lowest-bit .ensures) (c .clear-lowest .ensures)

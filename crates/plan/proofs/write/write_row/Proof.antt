@@ -3,6 +3,7 @@
 use native.Mathlib.Omega.{arith}
 use borrow.Author.Tests.{eqb-true, eqb-false}
 use Rattle.word.proofs.CountLaws.{lowest-cleared-lt}
+use Rattle.sheet_theory.proofs.LayoutLaws.{rows-within}
 use Rattle.plan.proofs.WriteLaws.{Writing, writing-start, writing-room, writing-more, writing-done}
 use Rattle.plan.proofs.write.write_row.Statement.{statement}
 use Rattle.plan.proofs.write.write_row.Tie as tie
@@ -41,5 +42,5 @@ returns c = writing-done _ _ _ _ _ _ _ _ (c .before .loop .inv) (omega (arith, e
 pub write-row-spec : {M : Type 1} → statement M
 write-row-spec =
     tie.close
-    (tie.spec Inv-loop μ-loop (λ c. omega arith) (λ c. omega arith) (λ c κs. omega arith) loop-holds lowest-bit-requires write-edge-requires
+    (tie.spec Inv-loop μ-loop (λ c. omega arith) (λ c. omega (arith, rows-within)) (λ c κs. omega arith) loop-holds lowest-bit-requires write-edge-requires
     (λ c κs. omega arith) loop-less loop-again same-length returns)

@@ -4,6 +4,7 @@ use native.Mathlib.Omega.{arith}
 use borrow.Author.Needs.{needs}
 use borrow.Author.Tests.{eqb-true, eqb-false}
 use Rattle.word.proofs.CountLaws.{lowest-lt, lowest-cleared-lt}
+use Rattle.sheet_theory.proofs.LayoutLaws.{rows-within}
 use Rattle.query.proofs.NumberLaws.{Passing, passing-start, passing-more, passing-done}
 use Rattle.query.proofs.number.pass_over.Statement.{statement}
 use Rattle.query.proofs.number.pass_over.Tie as tie
@@ -43,5 +44,5 @@ loop-less c = search lowest-cleared-lt
 pub pass-over-spec : {M : Type 1} → statement M
 pass-over-spec =
     tie.close
-    (tie.spec Inv-loop μ-loop (λ c. omega arith) (λ c. omega arith) (λ c κs. omega arith) loop-holds lowest-bit-requires count-at-requires
+    (tie.spec Inv-loop μ-loop (λ c. omega arith) (λ c. omega (arith, rows-within)) (λ c κs. omega arith) loop-holds lowest-bit-requires count-at-requires
     (λ c κs. search needs) (λ c κs. omega arith) loop-less loop-again returns)

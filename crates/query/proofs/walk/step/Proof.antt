@@ -3,6 +3,7 @@
 use native.Mathlib.Omega.{arith}
 use borrow.Author.Tests.{eqb-true, eqb-false}
 use Rattle.word.proofs.CountLaws.{lowest-lt, lowest-cleared-lt}
+use Rattle.sheet_theory.proofs.LayoutLaws.{rows-within}
 use Rattle.query.proofs.StepLaws.{Trying, trying-start, trying-goes, trying-more, trying-passes}
 use Rattle.query.proofs.walk.step.Statement.{statement}
 use Rattle.query.proofs.walk.step.Tie as tie
@@ -41,5 +42,5 @@ loop-less c = search lowest-cleared-lt
 pub step-spec : {M : Type 1} → statement M
 step-spec =
     tie.close
-    (tie.spec Inv-loop μ-loop (λ c. omega arith) (λ c. omega arith) (λ c κs. omega arith) loop-holds lowest-bit-requires count-at-requires returns
+    (tie.spec Inv-loop μ-loop (λ c. omega arith) (λ c. omega (arith, rows-within)) (λ c κs. omega arith) loop-holds lowest-bit-requires count-at-requires returns
     (λ c κs. omega arith) loop-less loop-again returns-2)

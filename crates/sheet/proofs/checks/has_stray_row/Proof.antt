@@ -4,6 +4,7 @@ use native.Mathlib.Omega.{arith}
 use borrow.Author.Needs.{needs}
 use borrow.Author.Tests.{not-true, not-false}
 use Rattle.sheet_theory.specs.Layout.{rowAt}
+use Rattle.sheet_theory.proofs.LayoutLaws.{rows-within}
 use Rattle.sheet.proofs.StrayLaws.{stray-found, stray-more, stray-none}
 use Rattle.sheet.proofs.checks.has_stray_row.Statement.{statement}
 use Rattle.sheet.proofs.checks.has_stray_row.Tie as tie
@@ -29,5 +30,5 @@ returns-2 c = stray-none _ (c .before .before .before .args .sheet .now) _ (c .b
 pub has-stray-row-spec : {M : Type 1} → statement M
 has-stray-row-spec =
     tie.close
-    (tie.spec Inv-loop μ-loop loop-holds (λ c. omega arith) (λ c. omega arith) (λ c κs. search needs) returns (λ c. omega arith) (λ c. omega arith)
+    (tie.spec Inv-loop μ-loop loop-holds (λ c. omega arith) (λ c. omega (arith, rows-within)) (λ c κs. search needs) returns (λ c. omega arith) (λ c. omega arith)
     loop-again returns-2)

@@ -6,15 +6,16 @@ use native.Mathlib.Omega.{arith}
 use borrow.Author.Needs.{needs}
 use lib.ListN.{length, length-set}
 use Rattle.sheet.specs.Fill.{over}
-use Rattle.sheet.proofs.FillLaws.{puts-none, puts-more, puts-done}
+use Rattle.sheet.proofs.FillLaws.{puts-none, puts-more}
+use Rattle.sheet.proofs.EmptyLaws.{zeros-filled}
 use Rattle.sheet.proofs.fill.clear.Statement.{statement}
 use Rattle.sheet.proofs.fill.clear.Tie as tie
 
 abbrev Inv-loop : tie.InvT-loop
-Inv-loop sheet₀ k₀ sheet k = (k ≤ length sheet₀) × (length sheet ≡ length sheet₀) × (sheet ≡ over sheet₀ 0 (λ (j : ℕ). 0) k)
+Inv-loop n sheet₀ words k₀ sheet k = (k ≤ words) × (length sheet ≡ length sheet₀) × (sheet ≡ over sheet₀ 0 (λ (j : ℕ). 0) k)
 
 abbrev μ-loop : tie.MeasureT-loop
-μ-loop sheet₀ k₀ sheet k = length sheet₀ - k
+μ-loop n sheet₀ words k₀ sheet k = words - k
 
 loop-holds : tie.Need-loop-holds Inv-loop μ-loop
 loop-holds c = (omega arith, refl, puts-none _ _ _)
@@ -26,9 +27,9 @@ same-length : tie.Need-same-length Inv-loop μ-loop
 same-length c = c .before .loop .inv .1
 
 returns : tie.Need-returns Inv-loop μ-loop
-returns c = puts-done _ _ _ _ (c .before .loop .k) (length (c .before .before .args .sheet .now)) (c .before .loop .inv .2) (omega arith)
+returns c = zeros-filled _ _ _ (c .before .loop .k) (c .before .before .before .before .pre .long) (c .before .loop .inv .2) (omega arith)
 
 pub clear-spec : {M : Type 1} → statement M
 clear-spec =
     tie.close
-    (tie.spec Inv-loop μ-loop loop-holds (λ c. search needs) (λ c. omega arith) (λ c. omega arith) (λ c. omega arith) loop-again same-length returns)
+    (tie.spec Inv-loop μ-loop (λ c κs. search needs) loop-holds (λ c. search needs) (λ c. omega arith) (λ c. omega arith) (λ c. omega arith) loop-again same-length returns)

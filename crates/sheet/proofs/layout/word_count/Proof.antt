@@ -1,18 +1,12 @@
--- `sheet::layout::word_count` meets its contract. Assumes nothing.
-use mathlib.Core.Path.{refl}
-use native.Mathlib.Omega.{arith}
-use Rattle.sheet_theory.proofs.LayoutLaws.{square-le}
+-- `sheet::layout::word_count` meets its contract: this is `size`, in code. Assumes nothing.
+use borrow.Author.Needs.{needs}
+use Rattle.sheet_theory.specs.Layout.{size}
 use Rattle.sheet.proofs.layout.word_count.Statement.{statement}
 use Rattle.sheet.proofs.layout.word_count.Tie as tie
 
-mul-result : tie.Need-mul-result
-mul-result c = omega (arith, square-le (c .args .n) (c .pre))
-
-add-result : tie.Need-add-result
-add-result c = omega (arith, square-le (c .args .n) (c .pre))
-
 returns : tie.Need-returns
-returns c = refl
+unfolding size
+returns c = search needs
 
 pub word-count-spec : {M : Type 1} → statement M
-word-count-spec = tie.close (tie.spec mul-result add-result returns)
+word-count-spec = tie.close (tie.spec (λ c κs. search needs) returns)

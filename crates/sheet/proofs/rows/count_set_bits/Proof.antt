@@ -7,6 +7,7 @@ use lib.ListN.{getD}
 use Rattle.word.proofs.CountLaws.{bitCount-le}
 use Rattle.sheet_theory.specs.Layout.{setBits}
 use Rattle.sheet_theory.proofs.SetBitsLaws.{setBits-zero, setBits-more, setBits-done, setBits-le}
+use Rattle.sheet_theory.proofs.LayoutLaws.{rows-within}
 use Rattle.sheet.proofs.rows.count_set_bits.Statement.{statement}
 use Rattle.sheet.proofs.rows.count_set_bits.Tie as tie
 
@@ -34,5 +35,5 @@ returns c = setBits-done _ (c .before .loop .i) _ _ (c .before .loop .inv .1) (o
 pub count-set-bits-spec : {M : Type 1} → statement M
 count-set-bits-spec =
     tie.close
-    (tie.spec Inv-loop μ-loop loop-holds (λ c. omega arith) (λ c. omega arith) (λ c κs. search needs) add-total (λ c. omega arith) (λ c. omega arith)
+    (tie.spec Inv-loop μ-loop loop-holds (λ c. omega arith) (λ c. omega (arith, rows-within)) (λ c κs. search needs) add-total (λ c. omega arith) (λ c. omega arith)
     loop-again returns)
