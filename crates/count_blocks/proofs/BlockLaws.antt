@@ -24,21 +24,17 @@ use Rattle.word.proofs.MaskLaws.{bit-and, bit-not, bit-low}
 use Rattle.word.proofs.WrapLaws.{minus-lt, minus-add, minus-congruent, Wraps}
 use Rattle.word.proofs.CountLaws.{sum-no-bits}
 use Rattle.answer.specs.Table.{Reflects}
-use Rattle.sheet_theory.specs.Layout.{Shape, size, rowAt, countAt, edgeAt}
+use Rattle.sheet_theory.specs.Layout.{Shape, rowAt, countAt, edgeAt}
 use Rattle.sheet.specs.Fill.{over}
-use Rattle.sheet.specs.Internal.{RowBase, RowBy}
+use Rattle.sheet.specs.Internal.{RowBase, rowBy, RowsBy, withCounts}
 use Rattle.sheet_theory.specs.Internal.{successorsSum, RowHolds}
 use Rattle.answer.proofs.TableLaws.{reflects-false, reflects-true, reflects-none, reflects-iff}
-use Rattle.sheet.proofs.FillLaws.{length-puts, over-in, over-out}
-use Rattle.sheet_theory.proofs.LayoutLaws.{place-apart}
-use Rattle.count_rows.specs.Internal.{SameRow, RowFilled}
+use Rattle.sheet.proofs.RowLaws.{row-long, row-at, block-count, counts-written, counts-in, counts-stay, summed-zeros}
+use Rattle.sheet_theory.proofs.LayoutLaws.{row-within}
+use Rattle.count_rows.specs.Internal.{SameRow}
 use Rattle.order.specs.Internal.{vertexAt, Ordered}
-use Rattle.count_blocks.specs.Internal.{UnitWords, PlaceOf, OwnBy, BlockSummed, RowsTaken, countByMask, BlockCounted, PartHolds, PartFilled, BlockHolds, HasColumns, Led, BlockAt}
+use Rattle.count_blocks.specs.Internal.{UnitWords, PlaceOf, OwnBy, countByMask, BlockCounted, PartHolds, BlockHolds, HasColumns, Led, BlockAt}
 use Rattle.count_rows.proofs.FilledLaws.{Filled, filled-more, same-ordered}
-
--- the words from the column c of row i on are the counts from i to these columns
-pub block-count : (n : ℕ) (s : List ℕ) (i base c : ℕ) → RowBase n i base → (j : ℕ) → getD s (base + c + j) 0 ≡ countAt n s i (c + j)
-block-count n s i base c at j = ap (λ x. getD s x 0) (omega (arith, at .is))
 
 -- ---- the path from a vertex to itself
 
@@ -59,10 +55,10 @@ module _ (op : ℕ → ℕ → ℕ) (i c : ℕ) (t : List ℕ) (long : length t 
     each = λ j h small. rw (delta-diff i (c + j) (λ e. elim out [ inl q ↦ omega arith | inr q ↦ omega arith ])) (wraps .none (getD t j 0) small);
   }
 
-  pub own-in : (u r : List ℕ) (p : ℕ) → UnitWords u → i ≡ c + p → p < 16 → RowBy op 16 u (16 - p) t r → OwnBy op i c t r
+  pub own-in : (u r : List ℕ) (p : ℕ) → UnitWords u → i ≡ c + p → p < 16 → r ≡ rowBy op 16 u (16 - p) t → OwnBy op i c t r
   own-in u r p unit e high a = record {
-    long = a .long ∙ long;
-    each = λ j h small. a .each j h (omega arith) ∙ ap (op (getD t j 0)) (unit .one (16 - p + j) (omega arith) ∙ place j);
+    long = row-long op 16 u (16 - p) t r a ∙ long;
+    each = λ j h small. row-at op 16 u (16 - p) t r a j h (omega arith) ∙ ap (op (getD t j 0)) (unit .one (16 - p + j) (omega arith) ∙ place j);
   }
     where
       place : (j : ℕ) → delta (16 - p + j) 16 ≡ delta i (c + j)
@@ -82,32 +78,21 @@ place-found i c r hi hc hr e = record {
 -- ---- the block that the recurrence gives, and its columns
 
 module _ (n : ℕ) (s : List ℕ) (i mask c : ℕ) where
-  pub block-counted : (t u : List ℕ) → BlockSummed n s mask c t → OwnBy plus i c t u → BlockCounted n s i mask c u
-  block-counted t u summed own = record {
+  pub block-counted : (t u : List ℕ) → RowsBy plus n s mask c 16 (replicate 16 0) t n → OwnBy plus i c t u → BlockCounted n s i mask c u
+  block-counted t u added own = record {
     long = own .long;
-    counts = λ j h. omega (arith, summed .sums j h, own .each j h (rw (summed .sums j h) (mod-lt _ (pow-pos 64))));
+    counts = λ j h.
+        let summed = summed-zeros n s mask c 16 16 t (omega arith) added j h in
+        omega (arith, own .each j h (rw summed (mod-lt _ (pow-pos 64))));
   }
 
   -- what holds of each column by its place in the block holds of each column
   by-place : (P : ℕ → Type 0) → ((j : ℕ) → j < 16 → P (c + j)) → (j : ℕ) → c ≤ j → j < c + 16 → P j
   by-place P h j low high = let e : c + (j - c) ≡ j = omega arith in subst P e (h (j - c) (omega arith))
 
-  module _ (t : List ℕ) (base : ℕ) (at : RowBase n i base) (counted : BlockCounted n s i mask c t) where
-    pub part-filled : (u : List ℕ) → length s ≡ size n → c + 16 ≤ n → u ≡ over s (base + c) (λ (j : ℕ). getD t j 0) 16 → PartFilled n s i mask c u
-    part-filled u long within e =
-        rw e
-        record {
-          long = length-puts s (λ j. base + c + j) f 16;
-          filled = by-place (λ j. countAt n w i j ≡ countByMask n s i mask j)
-              (λ j h. sym (block-count n w i base c at j) ∙ over-in s (base + c) f 16 j (omega (arith, at .within)) h ∙ counted .counts j h);
-          kept = λ k h. over-out s (base + c) f 16 k (elim h [ inl q ↦ inl (omega (arith, at .is)) | inr q ↦ inr (omega (arith, at .is)) ]);
-        }
-      where
-        f : ℕ → ℕ
-        f j = getD t j 0
-
-        w : List ℕ
-        w = over s (base + c) f 16
+  pub part-filled : (t u : List ℕ) (base : ℕ) → RowBase n i base → BlockCounted n s i mask c t → u ≡ over s (base + c) (λ (j : ℕ). getD t j 0) 16
+      → u ≡ withCounts n s i c 16 (countByMask n s i mask)
+  part-filled t u base at counted e = counts-written n s i c 16 (countByMask n s i mask) u (base + c) _ e (ap (λ (b : ℕ). b + c) (at .is)) (counted .counts)
 
   -- nothing is left of a count exactly if it is what is taken off
   left-none : (a d S : ℕ) → a < 2 ^ 64 → minus (minus (plus 0 a) d) S ≡ 0 → a ≡ (d + S) % 2 ^ 64
@@ -124,13 +109,13 @@ module _ (n : ℕ) (s : List ℕ) (i mask c : ℕ) where
       let q : Congruent (2 ^ 64) (m + d) (plus 0 a) = minus-add (plus 0 a) d in
       sym (minus-congruent 0 m S (omega arith) (congruent-cancel (2 ^ 64) (0 + S) m d (omega (arith, q))))
 
-  module _ (base : ℕ) (at : RowBase n i base) (t u w : List ℕ) (first : RowBy plus 16 s (base + c) (replicate 16 0) t) (own : OwnBy minus i c t u)
-      (taken : RowsTaken n s mask c u w) where
+  module _ (base : ℕ) (at : RowBase n i base) (t u w : List ℕ) (first : t ≡ rowBy plus 16 s (base + c) (replicate 16 0)) (own : OwnBy minus i c t u)
+      (taken : RowsBy minus n s mask c 16 u w n) where
     -- what is left at place j
     left : (j : ℕ) → j < 16 → getD w j 0 ≡ minus (minus (plus 0 (countAt n s i (c + j))) (delta i (c + j))) (sum n (λ b. bit mask b * countAt n s b (c + j)))
     left j h =
         let x : getD t j 0 ≡ plus 0 (countAt n s i (c + j))
-        = first .each j h (rw (length-replicate {A = ℕ} 16 0) h)
+        = row-at plus 16 s (base + c) (replicate 16 0) t first j h (rw (length-replicate {A = ℕ} 16 0) h)
         ∙ ap₂ plus (getD-replicate {A = ℕ} 16 j 0 0 h) (block-count n s i base c at j) in
         let y : getD u j 0 ≡ minus (plus 0 (countAt n s i (c + j))) (delta i (c + j))
         = own .each j h (rw x (mod-lt _ (pow-pos 64))) ∙ ap (λ (z : ℕ). minus z (delta i (c + j))) x in
@@ -234,27 +219,22 @@ led-sum n t l c k leading h hk un j low high = ap (λ (x : ℕ). (delta i j + x)
 
 module _ (n : ℕ) (s l : List ℕ) (h : Ordered n s l) (shape : Shape n s) (c : ℕ) (within : c + 16 ≤ n) where
   pub filling-more : (t u : List ℕ) (k leading mask r : ℕ) → k < n → Filled n s (vertexAt l) c 16 k t → Unled n t (vertexAt l) c k leading
-      → mask ≡ bitAnd (rowAt t (vertexAt l k)) leading → PartFilled n t (vertexAt l k) mask c u → Led leading (vertexAt l k) mask r
+      → mask ≡ bitAnd (rowAt t (vertexAt l k)) leading → u ≡ withCounts n t (vertexAt l k) c 16 (countByMask n t (vertexAt l k) mask) → Led leading (vertexAt l k) mask r
       → Filled n s (vertexAt l) c 16 (k + 1) u × Unled n u (vertexAt l) c (k + 1) r
-  filling-more t u k leading mask r hk f un em p led =
-      (filled-more n s l h shape c 16 within t u k hk f row, unled-more n t u (vertexAt l) c k leading mask r un led (p .filled) other)
+  filling-more t u k leading mask r hk f un em p led = (
+    filled-more n s l h shape c 16 within t u k hk f (counts-written n t i c 16 (successorsSum n t i) u _ _ p refl whole),
+    unled-more n t u (vertexAt l) c k leading mask r un led
+        (counts-in n t i c 16 (countByMask n t i mask) u p (omega (arith, row-within n i (h .order .vertex k hk), f .long, shape .long, within)))
+        (λ a j d low high. counts-stay n t i c 16 (countByMask n t i mask) u p within a j (omega (arith, within)) (λ e. absurd (d e))),
+  )
     where
       i : ℕ
       i = vertexAt l k
 
-      row : RowFilled n t i c 16 u
-      row = record {
-        long = p .long;
-        filled = λ j low high.
-            p .filled j low high
-            ∙ ap (λ (x : ℕ). countByMask n t i x j) em
-            ∙ led-sum n t l c k leading (same-ordered n s t (f .long) (f .rows) l h) hk un j low high;
-        kept = p .kept;
-      }
-
-      other : (a j : ℕ) → (a ≡ i → ⊥) → c ≤ j → j < c + 16 → countAt n u a j ≡ countAt n t a j
-      other a j d low high =
-          p .kept _ (elim (place-apart n a i j d (omega (arith, within))) [ inl q ↦ inl (omega arith) | inr q ↦ inr (omega (arith, within)) ])
+      whole : (j : ℕ) → j < 16 → countByMask n t i mask (c + j) ≡ successorsSum n t i (c + j)
+      whole j q =
+          ap (λ (x : ℕ). countByMask n t i x (c + j)) em
+          ∙ led-sum n t l c k leading (same-ordered n s t (f .long) (f .rows) l h) hk un (c + j) (omega arith) (omega arith)
 
 -- ---- the counts of a block compared
 

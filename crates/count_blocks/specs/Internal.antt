@@ -7,8 +7,7 @@ use Prim.Native.Nat.{ℕ, _+_, _*_, _%_, _^_, _≤_, _<_}
 use lib.ListN.{length, getD}
 use Rattle.sums.specs.Sum.{sum, delta}
 use Rattle.word.specs.Bit.{bit}
-use Rattle.word.specs.Wrap.{minus}
-use Rattle.sheet_theory.specs.Layout.{Shape, countsFrom, countAt}
+use Rattle.sheet_theory.specs.Layout.{Shape, countAt}
 use Rattle.sheet_theory.specs.Internal.{successorsSum}
 
 -- how many columns a block has
@@ -18,11 +17,6 @@ columns = 16
 -- the words of the array of `UnitWords`
 abbrev pub unitWords : ℕ
 unitWords = 2 * columns
-
--- t has, for each column of the block from c on, the sum of the counts to it from the vertices of the mask, modulo 2 ^ 64
-pub record BlockSummed (n : ℕ) (s : List ℕ) (mask c : ℕ) (t : List ℕ) : Type 0 where
-  pub long : length t ≡ columns
-  pub sums : (j : ℕ) → j < columns → getD t j 0 ≡ sum n (λ b. bit mask b * countAt n s b (c + j)) % 2 ^ 64
 
 -- u has 1 in its middle, and 0 at every other place
 pub record UnitWords (u : List ℕ) : Type 0 where
@@ -45,11 +39,6 @@ pub record OwnBy (op : ℕ → ℕ → ℕ) (i c : ℕ) (t u : List ℕ) : Type 
   pub long : length u ≡ columns
   pub each : (j : ℕ) → j < columns → getD t j 0 < 2 ^ 64 → getD u j 0 ≡ op (getD t j 0) (delta i (c + j))
 
--- u is t with the counts from the vertices of the mask to the columns from c on taken off
-pub record RowsTaken (n : ℕ) (s : List ℕ) (mask c : ℕ) (t u : List ℕ) : Type 0 where
-  pub long : length u ≡ length t
-  pub each : (j : ℕ) → j < columns → getD t j 0 < 2 ^ 64 → getD u j 0 ≡ minus (getD t j 0) (sum n (λ b. bit mask b * countAt n s b (c + j)))
-
 -- the count from i to j that the recurrence gives, if the edges from i lead to the vertices of the mask, modulo 2 ^ 64
 abbrev pub countByMask : ℕ → List ℕ → ℕ → ℕ → ℕ → ℕ
 countByMask n s i mask j = (delta i j + sum n (λ b. bit mask b * countAt n s b j)) % 2 ^ 64
@@ -62,12 +51,6 @@ pub record BlockCounted (n : ℕ) (s : List ℕ) (i mask c : ℕ) (t : List ℕ)
 -- the sheet has them
 abbrev pub PartHolds : ℕ → List ℕ → ℕ → ℕ → ℕ → Type 0
 PartHolds n s i mask c = (j : ℕ) → c ≤ j → j < c + columns → countAt n s i j ≡ countByMask n s i mask j
-
--- t is s with these counts
-pub record PartFilled (n : ℕ) (s : List ℕ) (i mask c : ℕ) (t : List ℕ) : Type 0 where
-  pub long : length t ≡ length s
-  pub filled : (j : ℕ) → c ≤ j → j < c + columns → countAt n t i j ≡ countByMask n s i mask j
-  pub kept : (k : ℕ) → (k < countsFrom n i + c) ⊎ (countsFrom n i + c + columns ≤ k) → getD t k 0 ≡ getD s k 0
 
 -- the counts to the columns from c on satisfy the recurrence
 abbrev pub BlockHolds : ℕ → List ℕ → ℕ → Type 0

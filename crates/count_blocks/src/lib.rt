@@ -10,8 +10,8 @@ ghost use Rattle.sheet_theory.specs.Layout.{mostVertices, Shape};
 ghost use Rattle.sheet_theory.specs.Internal.{RowHolds, RowsBelow};
 ghost use Rattle.order.specs.Internal.{Ordered};
 ghost use Rattle.count_rows.specs.Internal.{counted, ColumnsFilled};
-ghost use Rattle.sheet.specs.Internal.{RowBy};
-ghost use Rattle.count_blocks.specs.Internal.{columns, UnitWords, PlaceOf, OwnBy, BlockSummed, RowsTaken, BlockCounted, PartHolds, PartFilled};
+ghost use Rattle.sheet.specs.Internal.{rowBy, RowsBy, withCounts};
+ghost use Rattle.count_blocks.specs.Internal.{columns, UnitWords, PlaceOf, OwnBy, countByMask, BlockCounted, PartHolds};
 ghost use Rattle.count_blocks.specs.Internal.{HasColumns, Led, BlockAt, BlockReady, BlockHolds};
 use sheet::Sheet;
 
@@ -50,22 +50,6 @@ fn add_own(unit: &[u64; UNIT_WORDS], i: usize, c: usize, t: &mut [u64; COLUMNS])
     }
 }
 
-// For each column from c on, the sum of the counts to it from the vertices of the mask, modulo 2^64.
-fn sum_block(n: usize, sheet: &[u64], mask: u64, c: usize) -> [u64; COLUMNS]
-    requires { ⌜ (Shape n (now sheet)) × (mask < 2 ^ n) × (c + columns ≤ n) ⌝ }
-    ensures { λ r. ⌜ BlockSummed n (now (sheet .entry)) mask c r ⌝ }
-{
-    let mut t = [0u64; COLUMNS];
-    let mut rest = mask;
-    while rest != 0 {
-        let b = word::lowest_bit(rest);
-        let base = sheet::layout::row_base(n, b);
-        sheet::rows::add_row(COLUMNS, sheet, base + c, &mut t);
-        rest = word::clear_lowest(rest);
-    }
-    t
-}
-
 // The counts from i to the columns from c on that the recurrence gives, if the edges from i lead to the vertices of the mask.
 fn count_block(
     n: usize,
@@ -78,7 +62,8 @@ fn count_block(
     requires { ⌜ (BlockReady n (now sheet) (now unit) c) × (i < n) × (mask < 2 ^ n) ⌝ }
     ensures { λ r. ⌜ BlockCounted n (now (sheet .entry)) i mask c r ⌝ }
 {
-    let mut t = sum_block(n, sheet, mask, c);
+    let mut t = [0u64; COLUMNS];
+    sheet::rows::add_rows(n, sheet, mask, c, COLUMNS, &mut t);
     add_own(unit, i, c, &mut t);
     t
 }
@@ -116,10 +101,10 @@ fn block_at(n: usize, c: usize) -> usize
 // The counts from i to the columns from c on, written.
 fn fill_part(n: usize, sheet: &mut [u64], unit: &[u64; UNIT_WORDS], i: usize, mask: u64, c: usize)
     requires { ⌜ (BlockReady n (now sheet) (now unit) c) × (i < n) × (mask < 2 ^ n) ⌝ }
-    ensures { λ r. ⌜ PartFilled n (now (sheet .entry)) i mask c (now (sheet .exit)) ⌝ }
+    ensures { λ r. ⌜ now (sheet .exit) ≡ withCounts n (now (sheet .entry)) i c columns (countByMask n (now (sheet .entry)) i mask) ⌝ }
 {
     let t = count_block(n, sheet, unit, i, mask, c);
-    count_rows::put_row(COLUMNS, sheet, sheet::layout::row_base(n, i) + c, &t);
+    sheet::rows::copy_words(COLUMNS, &t, sheet, sheet::layout::row_base(n, i) + c);
 }
 
 // The counts from every vertex to the columns from c on, written in the order given.
@@ -160,7 +145,7 @@ pub fn fill_blocks(n: usize, sheet: &mut [u64], order: &[usize; Sheet::VERTICES]
 // The n words from base on, taken off the first n of t, modulo 2^64.
 fn take_row(n: usize, words: &[u64], base: usize, t: &mut [u64])
     requires { ⌜ (n ≤ length (now t)) × (base + n ≤ length (now words)) ⌝ }
-    ensures { λ r. ⌜ RowBy minus n (now (words .entry)) base (now (t .entry)) (now (t .exit)) ⌝ }
+    ensures { λ r. ⌜ now (t .exit) ≡ rowBy minus n (now (words .entry)) base (now (t .entry)) ⌝ }
 {
     let mut j = 0;
     while j < n {
@@ -183,7 +168,7 @@ fn take_own(unit: &[u64; UNIT_WORDS], i: usize, c: usize, t: &mut [u64; COLUMNS]
 // The counts from the vertices of the mask to the columns from c on, taken off.
 fn take_rows(n: usize, sheet: &[u64], mask: u64, c: usize, t: &mut [u64; COLUMNS])
     requires { ⌜ (Shape n (now sheet)) × (mask < 2 ^ n) × (c + columns ≤ n) × (length (now t) ≡ columns) ⌝ }
-    ensures { λ r. ⌜ RowsTaken n (now (sheet .entry)) mask c (now (t .entry)) (now (t .exit)) ⌝ }
+    ensures { λ r. ⌜ RowsBy minus n (now (sheet .entry)) mask c columns (now (t .entry)) (now (t .exit)) n ⌝ }
 {
     let mut rest = mask;
     while rest != 0 {

@@ -16,8 +16,10 @@ use Rattle.graph.specs.Count.{pathCount}
 use Rattle.graph.proofs.Recurrence.{pathCount-recurrence, pathCount-cong}
 use Rattle.sheet_theory.specs.Layout.{countsEnd, Shape, rowAt, countAt, edgeAt}
 use Rattle.sheet_theory.specs.Internal.{successorsSum, RowsBelow}
-use Rattle.sheet_theory.proofs.LayoutLaws.{row-counts, place-apart, redone-ext}
-use Rattle.count_rows.specs.Internal.{RowFilled, ColumnsFilled, counted}
+use Rattle.sheet_theory.proofs.LayoutLaws.{row-counts, row-within, redone-ext}
+use Rattle.sheet.specs.Internal.{withCounts}
+use Rattle.sheet.proofs.RowLaws.{counts-long, counts-in, counts-out, counts-stay}
+use Rattle.count_rows.specs.Internal.{ColumnsFilled, counted}
 use Rattle.order.specs.Internal.{vertexAt, Ordered}
 use Rattle.order.proofs.OrderLaws.{ordered-acyclic}
 
@@ -37,7 +39,7 @@ module _ (n : ℕ) (s l : List ℕ) (h : Ordered n s l) (shape : Shape n s) (c w
 
   -- ---- one row more
 
-  module _ (t u : List ℕ) (k : ℕ) (hk : k < n) (f : Filled n s (vertexAt l) c w k t) (r : RowFilled n t (vertexAt l k) c w u) where
+  module _ (t u : List ℕ) (k : ℕ) (hk : k < n) (f : Filled n s (vertexAt l) c w k t) (r : u ≡ withCounts n t (vertexAt l k) c w (successorsSum n t (vertexAt l k))) where
     -- an edge leads to a vertex whose counts are worked out
     term : (j : ℕ) → c ≤ j → j < c + w → (b : ℕ) → b < n
         → Congruent (2 ^ 64) (edgeAt s (vertexAt l k) b * countAt n t b j) (edgeAt s (vertexAt l k) b * pathCount n (edgeAt s) b j)
@@ -57,23 +59,18 @@ module _ (n : ℕ) (s l : List ℕ) (h : Ordered n s l) (shape : Shape n s) (c w
     now-done j lo hi =
         let i = vertexAt l k in
         let vertex = h .order .vertex k hk in
-        r .filled j lo hi
+        counts-in n t i c w (successorsSum n t i) u r (omega (arith, row-within n i vertex, f .long, shape .long, within)) j lo hi
         ∙ ap (λ (x : ℕ). (delta i j + sum n (λ b. bit x b * countAt n t b j)) % 2 ^ 64) (f .rows i vertex)
         ∙ congruent-add (2 ^ 64) (delta i j) _ (delta i j) _ refl (congruent-sum (2 ^ 64) n _ _ (term j lo hi))
         ∙ ap (λ (x : ℕ). x % 2 ^ 64) (sym (pathCount-recurrence n (edgeAt s) (ordered-acyclic n s l h) i j vertex (omega arith)))
 
-    -- the counts from another vertex, and those to other columns, stay
     stays : (i j : ℕ) → j < n → (i ≡ vertexAt l k → (j < c) ⊎ (c + w ≤ j)) → countAt n u i j ≡ countAt n t i j
-    stays i j hj other =
-        elim (ℕ-discrete i (vertexAt l k)) [
-          | yes e ↦ rw e (r .kept _ (elim (other e) [ inl q ↦ inl (omega arith) | inr q ↦ inr (omega arith) ]))
-          | no d ↦ r .kept _ (elim (place-apart n i (vertexAt l k) j d hj) [ inl q ↦ inl (omega arith) | inr q ↦ inr (omega (arith, within)) ])
-        ]
+    stays = counts-stay n t (vertexAt l k) c w (successorsSum n t (vertexAt l k)) u r within
 
     pub filled-more : Filled n s (vertexAt l) c w (k + 1) u
     filled-more = record {
-      long = r .long ∙ f .long;
-      rows = λ i hi. r .kept i (inl (omega arith)) ∙ f .rows i hi;
+      long = counts-long n t (vertexAt l k) c w (successorsSum n t (vertexAt l k)) u r ∙ f .long;
+      rows = λ i hi. counts-out n t (vertexAt l k) c w (successorsSum n t (vertexAt l k)) u r i (inl (omega arith)) ∙ f .rows i hi;
       done = λ m q j lo hi.
           elim (ℕ-discrete (vertexAt l m) (vertexAt l k)) [
             | yes e ↦ rw e (now-done j lo hi)
@@ -83,7 +80,9 @@ module _ (n : ℕ) (s l : List ℕ) (h : Ordered n s l) (shape : Shape n s) (c w
             ]
           ];
       kept = λ i j hi hj q. stays i j hj (λ e. q) ∙ f .kept i j hi hj q;
-      rest = λ x q. r .kept x (inr (omega (arith, within, row-counts n (vertexAt l k) (h .order .vertex k hk)))) ∙ f .rest x q;
+      rest = λ x q.
+          counts-out n t (vertexAt l k) c w (successorsSum n t (vertexAt l k)) u r x (inr (omega (arith, within, row-counts n (vertexAt l k) (h .order .vertex k hk))))
+          ∙ f .rest x q;
     }
 
   -- ---- all rows

@@ -1,9 +1,9 @@
 -- The laws of the row that the recurrence gives, and of rows compared and written. Assumes nothing.
-use mathlib.Core.Path.{_≡_, refl, sym, _∙_}
-use mathlib.Core.Logic.{inl, inr}
+use mathlib.Core.Path.{_≡_, refl, sym, ap, _∙_}
 use mathlib.Core.Bool.{Bool, true, false, true≢false, not}
 use mathlib.Core.List.{List}
 use Prim.Native.Nat.{ℕ, _+_, _%_, _^_, _≤_, _<_}
+use native.Mathlib.Nat.{zero-add}
 use native.Mathlib.Decide.{ℕ-discrete}
 use native.Mathlib.Omega.{arith}
 use borrow.Author.Tests.{eqb-true, eq-eqb, not-true}
@@ -14,13 +14,12 @@ use lib.Seq.{getD-set-same, getD-set-other}
 use Rattle.sums.proofs.SumLaws.{delta-refl, delta-diff}
 use Rattle.word.proofs.MaskLaws.{or-zero}
 use Rattle.answer.specs.Table.{Reflects}
-use Rattle.sheet_theory.specs.Layout.{size, rowAt}
+use Rattle.sheet_theory.specs.Layout.{rowAt}
 use Rattle.sheet.specs.Fill.{over}
-use Rattle.sheet.specs.Internal.{RowBase, RowsSummed}
+use Rattle.sheet.specs.Internal.{RowBase, RowsSummed, withCounts}
 use Rattle.sheet_theory.specs.Internal.{successorsSum, RowHolds}
-use Rattle.sheet.proofs.FillLaws.{length-puts, over-in, over-out}
-use Rattle.sheet.proofs.RowLaws.{base-count}
-use Rattle.count_rows.specs.Internal.{SuccessorsSummed, SameRow, RowFilled}
+use Rattle.sheet.proofs.RowLaws.{base-count, counts-written}
+use Rattle.count_rows.specs.Internal.{SuccessorsSummed, SameRow}
 
 -- ---- the row that the recurrence gives
 
@@ -86,15 +85,8 @@ module _ (P : ℕ → Type 0) (n i : ℕ) where
 
 -- ---- a row written
 
-pub row-filled : (n : ℕ) (s t u : List ℕ) (v base : ℕ) → length s ≡ size n → RowBase n v base → SuccessorsSummed n s v t
-    → u ≡ over s base (λ (j : ℕ). getD t j 0) n → RowFilled n s v 0 n u
-row-filled n s t u v base long at summed e =
-    rw e
-    record {
-      long = length-puts s (λ j. base + j) f n;
-      filled = λ j lo h. sym (base-count n (over s base f n) v base at j) ∙ over-in s base f n j (omega arith) (omega arith) ∙ summed .sums j (omega arith);
-      kept = λ k h. over-out s base f n k (elim h [ inl q ↦ inl (omega (arith, at .is)) | inr q ↦ inr (omega (arith, at .is)) ]);
-    }
-  where
-    f : ℕ → ℕ
-    f j = getD t j 0
+pub row-filled : (n : ℕ) (s t u : List ℕ) (v base : ℕ) → RowBase n v base → SuccessorsSummed n s v t → u ≡ over s base (λ (j : ℕ). getD t j 0) n
+    → u ≡ withCounts n s v 0 n (successorsSum n s v)
+row-filled n s t u v base at summed e =
+    counts-written n s v 0 n (successorsSum n s v) u base (λ j. getD t j 0) e (omega (arith, at .is))
+    (λ j h. summed .sums j h ∙ ap (successorsSum n s v) (sym (zero-add j)))

@@ -6,7 +6,7 @@ use mathlib.Core.List.{List}
 use Prim.Native.Nat.{ℕ, _+_, _%_, _^_, _≤_, _<_}
 use lib.ListN.{length, getD}
 use Rattle.graph.specs.Count.{pathCount}
-use Rattle.sheet_theory.specs.Layout.{mostVertices, countsEnd, countsFrom, rowAt, countAt, edgeAt, redone}
+use Rattle.sheet_theory.specs.Layout.{mostVertices, countsEnd, rowAt, countAt, edgeAt, redone}
 use Rattle.sheet_theory.specs.Internal.{successorsSum}
 
 -- t has, at each j below n, the count from i to j that the recurrence gives
@@ -17,12 +17,6 @@ pub record SuccessorsSummed (n : ℕ) (s : List ℕ) (i : ℕ) (t : List ℕ) : 
 -- the n words of s from base on are those of t
 abbrev pub SameRow : ℕ → List ℕ → ℕ → List ℕ → Type 0
 SameRow n s base t = (j : ℕ) → j < n → getD s (base + j) 0 ≡ getD t j 0
-
--- t is s with the counts from v to the w columns from c on as the recurrence gives them
-pub record RowFilled (n : ℕ) (s : List ℕ) (v c w : ℕ) (t : List ℕ) : Type 0 where
-  pub long : length t ≡ length s
-  pub filled : (j : ℕ) → c ≤ j → j < c + w → countAt n t v j ≡ successorsSum n s v j
-  pub kept : (k : ℕ) → (k < countsFrom n v + c) ⊎ (countsFrom n v + c + w ≤ k) → getD t k 0 ≡ getD s k 0
 
 -- t is s with each count to the w columns from c on worked out from the rows, modulo 2 ^ 64
 pub record ColumnsFilled (n : ℕ) (s : List ℕ) (c w : ℕ) (t : List ℕ) : Type 0 where

@@ -1,12 +1,12 @@
 // The rows of counts that the recurrence of path counts gives: worked out, compared and written.
 ghost use mathlib.Core.Path.{_≡_};
 ghost use Prim.Native.Nat.{ℕ, _+_, _≤_, _<_, _^_};
-ghost use lib.ListN.{length, getD};
+ghost use lib.ListN.{length};
 ghost use Rattle.answer.specs.Table.{Reflects};
 ghost use Rattle.sheet_theory.specs.Layout.{Shape, rowAt};
-ghost use Rattle.sheet.specs.Fill.{over};
-ghost use Rattle.sheet_theory.specs.Internal.{RowHolds, RowsBelow};
-ghost use Rattle.count_rows.specs.Internal.{SuccessorsSummed, SameRow, RowFilled, counted};
+ghost use Rattle.sheet.specs.Internal.{withCounts};
+ghost use Rattle.sheet_theory.specs.Internal.{successorsSum, RowHolds, RowsBelow};
+ghost use Rattle.count_rows.specs.Internal.{SuccessorsSummed, SameRow, counted};
 ghost use Rattle.order.specs.Internal.{Ordered};
 use sheet::Sheet;
 
@@ -58,25 +58,13 @@ pub fn rows_hold(n: usize, sheet: &[u64]) -> bool
     true
 }
 
-// Internal: the first n words of t, written from base on.
-pub fn put_row(n: usize, sheet: &mut [u64], base: usize, t: &[u64])
-    requires { ⌜ (n ≤ length (now t)) × (base + n ≤ length (now sheet)) ⌝ }
-    ensures { λ r. ⌜ now (sheet .exit) ≡ over (now (sheet .entry)) base (λ (j : ℕ). getD (now (t .entry)) j 0) n ⌝ }
-{
-    let mut j = 0;
-    while j < n {
-        sheet[base + j] = t[j];
-        j += 1;
-    }
-}
-
 // The counts from v, written as the recurrence gives them.
 fn fill_row(n: usize, sheet: &mut [u64], v: usize)
     requires { ⌜ (Shape n (now sheet)) × (v < n) × (rowAt (now sheet) v < 2 ^ n) ⌝ }
-    ensures { λ r. ⌜ RowFilled n (now (sheet .entry)) v 0 n (now (sheet .exit)) ⌝ }
+    ensures { λ r. ⌜ now (sheet .exit) ≡ withCounts n (now (sheet .entry)) v 0 n (successorsSum n (now (sheet .entry)) v) ⌝ }
 {
     let t = sum_successors(n, sheet, v);
-    put_row(n, sheet, sheet::layout::row_base(n, v), &t);
+    sheet::rows::copy_words(n, &t, sheet, sheet::layout::row_base(n, v));
 }
 
 // Internal: the counts, in the order given, row by row.

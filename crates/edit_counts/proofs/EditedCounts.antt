@@ -1,11 +1,11 @@
 -- The laws of the counts as an edit changes them: a sum over the vertices of a mask, a row with a multiple of another added, and the rows
 -- one after the other. Assumes nothing.
-use mathlib.Core.Path.{_≡_, refl, ap, ap₂, _∙_}
+use mathlib.Core.Path.{_≡_, refl, sym, ap, ap₂, _∙_}
 use mathlib.Core.Logic.{_⊎_, inl, inr}
 use mathlib.Core.Bool.{Bool}
 use mathlib.Core.List.{List}
 use Prim.Native.Nat.{ℕ, _+_, _*_, _%_, _^_, _≤_, _<_}
-use native.Mathlib.Nat.{mod-add-mod, le-refl, zero-mul, suc-mul}
+use native.Mathlib.Nat.{mod-add-mod, zero-add, zero-mul, suc-mul}
 use native.Mathlib.Decide.{ℕ-discrete}
 use native.Mathlib.Numerals.{add-one}
 use native.Mathlib.Omega.{arith}
@@ -15,10 +15,11 @@ use Rattle.word.proofs.VisitLaws.{Adding, adding-more, adding-done}
 use Rattle.graph.specs.Update.{fromSum, toSum}
 use Rattle.graph.proofs.Insertion.{from-cong}
 use Rattle.sheet_theory.specs.Layout.{countsEnd, Shape, countsFrom, rowAt, countAt}
-use Rattle.sheet.specs.Internal.{RowBase, RowsSummed}
-use Rattle.sheet.proofs.FillLaws.{length-puts, puts-in, puts-more, over-in, over-out, over-same}
-use Rattle.sheet.proofs.RowLaws.{base-count}
-use Rattle.sheet_theory.proofs.LayoutLaws.{row-counts, row-within, place-apart, redone-ext, length-redone, row-redone, count-redone, rest-redone}
+use Rattle.sheet.specs.Fill.{over}
+use Rattle.sheet.specs.Internal.{RowBase, RowsSummed, withCounts}
+use Rattle.sheet.proofs.FillLaws.{puts-in, puts-change, over-in, over-only, over-over}
+use Rattle.sheet.proofs.RowLaws.{base-count, counts-written, counts-long, counts-in, counts-out, counts-stay}
+use Rattle.sheet_theory.proofs.LayoutLaws.{row-counts, row-within, redone-ext, length-redone, row-redone, count-redone, rest-redone}
 use Rattle.edit_theory.specs.Outcome.{editedCount}
 use Rattle.edit_counts.specs.Internal.{toFactor, fromFactor, withFactors, withMultiple, rowEdited, countBy, countsBy, countsEdited}
 use Rattle.edit_counts.proofs.FactorLaws.{edited-by, edited-mod, edited-to}
@@ -41,37 +42,13 @@ module _ (s : List ℕ) (base x : ℕ) (T : List ℕ) where
   pub multiple-more : (w : List ℕ) (j a r : ℕ) → w ≡ withMultiple j s base x T → a ≡ x * getD T j 0 % 2 ^ 64
       → r ≡ (getD w (base + j) 0 + a) % 2 ^ 64 → set w (base + j) r ≡ withMultiple (j + 1) s base x T
   multiple-more w j a r ew ea er =
-      let kept : getD w (base + j) 0 ≡ getD s (base + j) 0
-      = ap (λ l. getD l (base + j) 0) ew ∙ over-out s base _ j (base + j) (inr (le-refl (base + j))) in
-      puts-more s (λ k. base + k) _ w j (base + j) r ew refl (omega arith)
+      puts-change s (λ k. base + k) (λ k y. (y + x * getD T k 0) % 2 ^ 64) w j (base + j) r ew refl (λ k q e. omega arith) (omega arith)
 
   -- nothing is added where x is 0
   pub multiple-none : (n : ℕ) → base + n ≤ length s → ((j : ℕ) → j < n → getD s (base + j) 0 < 2 ^ 64) → x ≡ 0 → s ≡ withMultiple n s base x T
-  multiple-none n h small e = over-same s base _ n h (λ j q. rw e (simp zero-mul (omega (arith, small j q))))
+  multiple-none n h small e = over-only s s base _ n h refl (λ j q. rw e (simp zero-mul (omega (arith, small j q)))) (λ k q. refl)
 
 -- ---- one row
-
--- w is s with f for the counts from i
-pub record Row (n : ℕ) (s : List ℕ) (i : ℕ) (f : ℕ → ℕ) (w : List ℕ) : Type 0 where
-  pub long : length w ≡ length s
-  pub counts : (j : ℕ) → j < n → countAt n w i j ≡ f j
-  pub kept : (x : ℕ) → (x < countsFrom n i) ⊎ (countsFrom n i + n ≤ x) → getD w x 0 ≡ getD s x 0
-
-module _ {n : ℕ} {s : List ℕ} {i : ℕ} where
-  pub row-none : Row n s i (countAt n s i) s
-  row-none = record { long = refl; counts = λ j q. refl; kept = λ x q. refl }
-
-  pub row-multiple : {f : ℕ → ℕ} {h : List ℕ} (x : ℕ) (T w : List ℕ) → countsFrom n i + n ≤ length s → Row n s i f h
-      → w ≡ withMultiple n h (countsFrom n i) x T → Row n s i (λ j. (f j + x * getD T j 0) % 2 ^ 64) w
-  row-multiple {f} {h} x T w fits was e =
-      record {
-        long = ap length e ∙ length-puts h (λ j. countsFrom n i + j) _ n ∙ was .long;
-        counts = λ j q.
-            ap (λ (l : List ℕ). countAt n l i j) e
-            ∙ over-in h (countsFrom n i) _ n j (omega (arith, was .long)) q
-            ∙ ap (λ (c : ℕ). (c + x * getD T j 0) % 2 ^ 64) (was .counts j q);
-        kept = λ k q. ap (λ (l : List ℕ). getD l k 0) e ∙ over-out h (countsFrom n i) _ n k q ∙ was .kept k q;
-      }
 
 -- `edit_row`: both multiples, where f is the sum over the predecessors a and x the factor of T
 pub row-edited : (inserts : Bool) (n : ℕ) (s : List ℕ) (i v a base f x : ℕ) (T U h w : List ℕ) → RowBase n i base
@@ -105,24 +82,28 @@ module _ (inserts : Bool) (n : ℕ) (s : List ℕ) (v a : ℕ) (T : List ℕ) wh
     editing-shape = record { low = shape .low; high = shape .high; long = was .long ∙ shape .long }
 
     -- a turn of either loop, which leaves f for the counts from i
-    editing-more : (f : ℕ → ℕ) (w : List ℕ) → Row n t i f w → ((j : ℕ) → j < n → f j ≡ countBy inserts n s v a T i j)
-        → Editing inserts n s v a T (i + 1) w
-    editing-more f w row is =
+    editing-more : (f : ℕ → ℕ) (w : List ℕ) → countsFrom n i + n ≤ length t → w ≡ over t (countsFrom n i) f n
+        → ((j : ℕ) → j < n → f j ≡ countBy inserts n s v a T i j) → Editing inserts n s v a T (i + 1) w
+    editing-more f w fits e is =
         record {
-          long = row .long ∙ was .long;
+          long = counts-long n t i 0 n g w row ∙ was .long;
           done = λ k q j hj.
               elim (ℕ-discrete k i) [
-                | yes p ↦ rw p (row .counts j hj ∙ is j hj)
-                | no p ↦ row .kept (countsFrom n k + j) (place-apart n k i j p hj) ∙ was .done k (omega (arith, p)) j hj
+                | yes p ↦ rw p (counts-in n t i 0 n g w row (omega arith) j (omega arith) (omega arith))
+                | no p ↦ counts-stay n t i 0 n g w row (omega arith) k j hj (λ o. absurd (p o)) ∙ was .done k (omega (arith, p)) j hj
               ];
           kept = λ x q.
               elim q [
-                | inl p ↦ row .kept x (inl (omega arith)) ∙ was .kept x (inl p)
-                | inr p ↦
-                    let l : countsFrom n i + n ≤ x = omega (arith, suc-mul i n, add-one i) in
-                    row .kept x (inr l) ∙ was .kept x (inr (omega arith))
+                | inl p ↦ counts-out n t i 0 n g w row x (inl (omega arith)) ∙ was .kept x (inl p)
+                | inr p ↦ counts-out n t i 0 n g w row x (inr (omega (arith, suc-mul i n, add-one i))) ∙ was .kept x (inr (omega (arith, suc-mul i n, add-one i)))
               ];
         }
+      where
+        g : ℕ → ℕ
+        g = countBy inserts n s v a T i
+
+        row : w ≡ withCounts n t i 0 n g
+        row = counts-written n t i 0 n g w (countsFrom n i) f e (omega arith) (λ j q. is j q ∙ ap g (sym (zero-add j)))
 
     same : (j : ℕ) → countAt n t i j ≡ countAt n s i j
     same j = was .kept (countsFrom n i + j) (inr (omega arith))
@@ -135,8 +116,8 @@ module _ (inserts : Bool) (n : ℕ) (s : List ℕ) (v a : ℕ) (T : List ℕ) wh
       pub editing-both : (U l : List ℕ) → n ≤ length l → U ≡ withFactors inserts n s v T l → w ≡ rowEdited inserts n t i v a T U
           → Editing inserts n s v a T (i + 1) w
       editing-both U l h eu e =
-          editing-more _ w (row-multiple _ U w fits (row-multiple _ T _ fits row-none refl) e)
-          (λ j hj. rw (mod-add-mod, same j, same v, from-cong n (countAt n t) (countAt n s) (bit a) i (λ k l. same k), factor j hj)
+          editing-more _ w fits (e ∙ over-over t (countsFrom n i) _ _ n fits)
+          (λ j hj. rw (over-in t (countsFrom n i) _ n j fits hj, mod-add-mod, same j, same v, from-cong n (countAt n t) (countAt n s) (bit a) i (λ k l. same k), factor j hj)
           (edited-by (countAt n s i j) (countAt n s i v) (countAt n s v j) _ (getD T j 0) inserts))
         where
           factor : (j : ℕ) → j < n → getD U j 0 ≡ fromFactor inserts (getD T j 0) (countAt n s v j)
@@ -146,7 +127,7 @@ module _ (inserts : Bool) (n : ℕ) (s : List ℕ) (v a : ℕ) (T : List ℕ) wh
       editing-to : (x : ℕ) → a ≡ 0 → x ≡ toFactor inserts (countAt n t i v) 0 → w ≡ withMultiple n t (countsFrom n i) x T
           → Editing inserts n s v a T (i + 1) w
       editing-to x ea ex e =
-          editing-more _ w (row-multiple x T w fits row-none e)
+          editing-more _ w fits e
           (λ j hj. rw (ex, same j, same v, ea) (edited-to inserts n (countAt n s) i _ _ (countAt n s v j) (getD T j 0)))
 
 -- ---- the same by where a row begins

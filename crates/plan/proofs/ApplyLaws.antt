@@ -4,8 +4,8 @@ use mathlib.Core.Bool.{Bool, true, false}
 use mathlib.Core.List.{List, [], _∷_, _++_, append-nil}
 use Prim.Native.Nat.{ℕ, zero, suc, _+_, _-_, _*_, _/_, _%_, _≤_, _<_}
 use native.Mathlib.Omega.{arith}
-use lib.ListN.{length, drop, take}
-use lib.Seq.{drop-drop, drop-length, paste, take-paste, take-length}
+use lib.ListN.{length, getD, drop}
+use lib.Seq.{drop-drop, ext-getD}
 use Rattle.record.specs.declared.Record.{Record}
 use Rattle.record.specs.declared.Record.the-variants.{Insert, Delete, Malformed}
 use Rattle.record.specs.declared.reader.Reading.{Reading}
@@ -17,6 +17,8 @@ use Rattle.answer.specs.Answers.{answer, decided}
 use Rattle.sheet_theory.specs.Layout.{Shape, setBits}
 use Rattle.sheet_theory.proofs.LayoutLaws.{size-le, greatest}
 use Rattle.answer.proofs.AnswerLaws.{decided-old}
+use Rattle.sheet.specs.Fill.{over}
+use Rattle.sheet.proofs.FillLaws.{length-puts, over-front}
 use Rattle.edit_theory.specs.Edit.{edgeEdit, insertEdge, deleteEdge}
 use Rattle.edit_theory.specs.Outcome.{editAnswer, editAfter}
 use Rattle.edit_theory.proofs.Refusals.{edit-refused}
@@ -138,23 +140,19 @@ module _ (n : ℕ) (s plan : List ℕ) (a : Answer) (t : List ℕ) (h : Reached 
   reached-number = ap (λ (x : Answer). x .number) (h .answered)
 
   -- the words kept aside are those of s, and put back they are s
-  pub all-refused : (a .number ≡ 0 → ⊥) → (z kept u : List ℕ) (m : ℕ) → m ≡ length s → length s ≤ length z → kept ≡ paste z 0 s m
-      → length t ≡ length s → u ≡ paste t 0 kept m → AppliedAll n s plan a u
+  pub all-refused : (a .number ≡ 0 → ⊥) → (z kept u : List ℕ) (m : ℕ) → m ≡ length s → length s ≤ length z → kept ≡ over z 0 (λ (j : ℕ). getD s j 0) m
+      → length t ≡ length s → u ≡ over t 0 (λ (j : ℕ). getD kept j 0) m → AppliedAll n s plan a u
   all-refused d z kept u m em w ek et eu = record {
     answered = h .answered ∙ ap (λ (x : ℕ). answer (appliedPlan n s plan .number) (appliedPlan n s plan .place) x)
         (sym (decided-old (appliedPlan n s plan .number) _ 0 (λ q. d (reached-number ∙ q))));
     words = back ∙ sym (decided-old (a .number) _ s d);
   }
     where
-      -- the first words of what is kept, and none of what was there
       back : u ≡ s
       back =
-          let e : m ≡ 0 + length s = omega arith in
-          let f : 0 + m ≡ length t = omega arith in
-          let front : take m kept ≡ s
-          = ap₂ (λ (k : ℕ) (l : List ℕ). take k l) e (rw em at ek) ∙ (take-paste z 0 s (length s) (omega arith) (omega arith) ∙ take-length s) in
-          let rest : drop (0 + m) t ≡ [] = ap (λ (k : ℕ). drop k t) f ∙ drop-length t in
-          eu ∙ (ap₂ (λ (x y : List ℕ). x ++ y) front rest ∙ append-nil s)
+          let long : length u ≡ length s = ap length eu ∙ length-puts t (λ j. 0 + j) (λ j. getD kept j 0) m ∙ et in
+          ext-getD 0 u s long
+          (λ k q. over-front t u _ m k eu (omega arith) (omega arith) ∙ over-front z kept _ m k ek (omega arith) (omega arith))
 
   pub all-accepted : a .number ≡ 0 → (v : ℕ) → v ≡ setBits n t → (r : Answer) → r ≡ answer 0 0 v → AppliedAll n s plan r t
   all-accepted z v ev r er =

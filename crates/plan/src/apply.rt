@@ -7,7 +7,6 @@ ghost use Rattle.sheet_theory.specs.Layout.{Shape};
 ghost use Rattle.plan_theory.specs.Records.{numberOn, leftBy};
 ghost use Rattle.plan_theory.specs.Calls.{appliedPlan};
 ghost use Rattle.plan.specs.Internal.{Reached, AppliedAll};
-use crate::keep;
 use record::Record;
 use record::reader;
 use record::reader::Reading;
@@ -56,10 +55,10 @@ pub(crate) fn apply_all(n: usize, sheet: &mut [u64], plan: &[u8]) -> Answer
 {
     let words = sheet::layout::word_count(n);
     let mut kept = [0u64; Sheet::WORDS];
-    keep::copy(words, sheet, &mut kept);
+    sheet::rows::copy_words(words, sheet, &mut kept, 0);
     let answer = apply(n, sheet, plan);
     if answer.number != 0 {
-        keep::copy(words, &kept, sheet);
+        sheet::rows::copy_words(words, &kept, sheet, 0);
         return answer;
     }
     Answer::accepted(sheet::rows::count_set_bits(n, sheet))

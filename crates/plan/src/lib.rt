@@ -7,7 +7,6 @@ use sheet::Refusal;
 
 mod apply;
 mod check;
-mod keep;
 mod write;
 
 // The greatest length of a plan, in bytes: 4,096 records.

@@ -1,8 +1,7 @@
 -- That clearing every word and then setting the counts from a vertex to itself makes the empty sheet. Assumes nothing.
-use mathlib.Core.Path.{_≡_, sym, ap, subst, _∙_}
+use mathlib.Core.Path.{_≡_, sym, ap, _∙_}
 use mathlib.Core.List.{List}
 use Prim.Native.Nat.{ℕ, _+_, _*_, _<_}
-use native.Mathlib.Nat.{zero-add}
 use native.Mathlib.Decide.{ℕ-discrete}
 use native.Mathlib.Omega.{arith}
 use lib.ListN.{length, getD, replicate, length-replicate, getD-replicate}
@@ -10,21 +9,21 @@ use lib.Seq.{ext-getD}
 use Rattle.sums.specs.Sum.{delta}
 use Rattle.sums.proofs.SumLaws.{delta-refl, delta-diff}
 use Rattle.sheet_theory.specs.Layout.{size, countAt, emptySheet}
-use Rattle.sheet.specs.Fill.{puts, over}
+use Rattle.sheet.specs.Fill.{puts}
 use Rattle.sheet.specs.Internal.{diagonalAt}
-use Rattle.sheet.proofs.FillLaws.{length-puts, puts-in, puts-out, over-in}
+use Rattle.sheet.proofs.FillLaws.{length-puts, puts-in, puts-out}
 use Rattle.sheet_theory.proofs.LayoutLaws.{counts-within, row-counts, row-within, place-only, redone-ext}
 
 -- words of which each is set to 0 are zeros
-pub zeros-filled : (m : ℕ) (s w : List ℕ) (k : ℕ) → length s ≡ m → w ≡ over s 0 (λ (j : ℕ). 0) k → k ≡ m → w ≡ replicate m 0
+pub zeros-filled : (m : ℕ) (s w : List ℕ) (k : ℕ) → length s ≡ m → w ≡ puts s (λ (j : ℕ). j) (λ (j : ℕ). 0) k → k ≡ m → w ≡ replicate m 0
 zeros-filled m s w k es ew ek =
-    let z : List ℕ = over s 0 (λ (j : ℕ). 0) m in
+    let z : List ℕ = puts s (λ (j : ℕ). j) (λ (j : ℕ). 0) m in
     ew
     ∙ rw ek
-    (ext-getD 0 z (replicate m 0) (length-puts s (λ j. 0 + j) (λ j. 0) m ∙ es ∙ sym (length-replicate {A = ℕ} m 0))
+    (ext-getD 0 z (replicate m 0) (length-puts s (λ j. j) (λ j. 0) m ∙ es ∙ sym (length-replicate {A = ℕ} m 0))
     (λ j q.
-    let l : j < m = omega (arith, length-puts s (λ j. 0 + j) (λ j. 0) m) in
-    subst (λ (x : ℕ). getD z x 0 ≡ 0) (zero-add j) (over-in s 0 (λ (i : ℕ). 0) m j (omega arith) l) ∙ sym (getD-replicate {A = ℕ} m j 0 0 l)))
+    let l : j < m = omega (arith, length-puts s (λ j. j) (λ j. 0) m) in
+    puts-in s (λ i. i) (λ i. 0) m j l (omega arith) (λ i x y e. omega arith) ∙ sym (getD-replicate {A = ℕ} m j 0 0 l)))
 
 module _ (n : ℕ) (w t : List ℕ) (ew : w ≡ replicate (size n) 0) (et : t ≡ puts w (diagonalAt n) (λ (k : ℕ). 1) n) where
   -- a place that is on no diagonal

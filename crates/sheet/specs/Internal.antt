@@ -7,6 +7,7 @@ use lib.ListN.{length, getD}
 use Rattle.sums.specs.Sum.{sum}
 use Rattle.word.specs.Bit.{bit}
 use Rattle.sheet_theory.specs.Layout.{mostVertices, countsEnd, size, countsFrom, countPlace, countAt}
+use Rattle.sheet.specs.Fill.{puts, over}
 
 -- ---- places
 
@@ -28,13 +29,21 @@ diagonalAt n i = countPlace n i i
 
 -- ---- rows of counts
 
--- u has, at each place j below n that t has, what op makes of word j of t and word j of s from base on: `plus` or
--- `minus`; of its places from n on nothing is said
-pub record RowBy (op : ℕ → ℕ → ℕ) (n : ℕ) (s : List ℕ) (base : ℕ) (t u : List ℕ) : Type 0 where
+-- t with, at each place j below n, what op makes of word j of t and word j of s from base on: `plus` or `minus`
+abbrev pub rowBy : (ℕ → ℕ → ℕ) → ℕ → List ℕ → ℕ → List ℕ → List ℕ
+rowBy op n s base t = puts t (λ j. j) (λ j. op (getD t j 0) (getD s (base + j) 0)) n
+
+-- u has as many words as t, and each below w is that of t with the counts to its column, of the w from c on, from the vertices of the
+-- mask below k, added or taken off: op is `plus` or `minus`
+pub record RowsBy (op : ℕ → ℕ → ℕ) (n : ℕ) (s : List ℕ) (mask c w : ℕ) (t u : List ℕ) (k : ℕ) : Type 0 where
   pub long : length u ≡ length t
-  pub each : (j : ℕ) → j < n → j < length t → getD u j 0 ≡ op (getD t j 0) (getD s (base + j) 0)
+  pub each : (j : ℕ) → j < w → getD t j 0 < 2 ^ 64 → getD u j 0 ≡ op (getD t j 0) (sum k (λ b. bit mask b * countAt n s b (c + j)))
 
 -- t has, at each j below n, the sum of the counts to j from the vertices of the mask, modulo 2 ^ 64
 pub record RowsSummed (n : ℕ) (s : List ℕ) (mask : ℕ) (t : List ℕ) : Type 0 where
   pub long : length t ≡ mostVertices
   pub sums : (j : ℕ) → j < n → getD t j 0 ≡ sum n (λ b. bit mask b * countAt n s b j) % 2 ^ 64
+
+-- s with f j for the count from i to j, for each of the w columns j from c on
+abbrev pub withCounts : ℕ → List ℕ → ℕ → ℕ → ℕ → (ℕ → ℕ) → List ℕ
+withCounts n s i c w f = over s (countsFrom n i + c) (λ j. f (c + j)) w

@@ -1,22 +1,48 @@
-// Rows of counts added up, and the set bits of the rows.
+// Words copied, rows of counts added up, and the set bits of the rows.
 ghost use mathlib.Core.Path.{_≡_};
-ghost use Prim.Native.Nat.{_+_, _≤_, _<_, _^_};
-ghost use lib.ListN.{length};
+ghost use Prim.Native.Nat.{ℕ, _+_, _≤_, _<_, _^_};
+ghost use lib.ListN.{length, getD};
 ghost use Rattle.word.specs.Wrap.{plus};
 ghost use Rattle.sheet_theory.specs.Layout.{Shape, setBits};
-ghost use Rattle.sheet.specs.Internal.{RowBy, RowsSummed};
+ghost use Rattle.sheet.specs.Fill.{over};
+ghost use Rattle.sheet.specs.Internal.{rowBy, RowsBy, RowsSummed};
 use crate::layout;
 use crate::layout::Sheet;
+
+// Internal: the first `count` words of `from`, written to `to` from base on.
+pub fn copy_words(count: usize, from: &[u64], to: &mut [u64], base: usize)
+    requires { ⌜ (count ≤ length (now from)) × (base + count ≤ length (now to)) ⌝ }
+    ensures { λ r. ⌜ now (to .exit) ≡ over (now (to .entry)) base (λ (j : ℕ). getD (now (from .entry)) j 0) count ⌝ }
+{
+    let mut j = 0;
+    while j < count {
+        to[base + j] = from[j];
+        j += 1;
+    }
+}
 
 // Internal: the n words from base on, added to the first n of t, modulo 2^64.
 pub fn add_row(n: usize, words: &[u64], base: usize, t: &mut [u64])
     requires { ⌜ (n ≤ length (now t)) × (base + n ≤ length (now words)) ⌝ }
-    ensures { λ r. ⌜ RowBy plus n (now (words .entry)) base (now (t .entry)) (now (t .exit)) ⌝ }
+    ensures { λ r. ⌜ now (t .exit) ≡ rowBy plus n (now (words .entry)) base (now (t .entry)) ⌝ }
 {
     let mut j = 0;
     while j < n {
         t[j] = word::wrapping_add(t[j], words[base + j]);
         j += 1;
+    }
+}
+
+// Internal: the counts from the vertices of the mask to the w columns from c on, added to the first w words of t, modulo 2^64.
+pub fn add_rows(n: usize, sheet: &[u64], mask: u64, c: usize, w: usize, t: &mut [u64])
+    requires { ⌜ (Shape n (now sheet)) × (mask < 2 ^ n) × (c + w ≤ n) × (w ≤ length (now t)) ⌝ }
+    ensures { λ r. ⌜ RowsBy plus n (now (sheet .entry)) mask c w (now (t .entry)) (now (t .exit)) n ⌝ }
+{
+    let mut rest = mask;
+    while rest != 0 {
+        let base = layout::row_base(n, word::lowest_bit(rest));
+        add_row(w, sheet, base + c, t);
+        rest = word::clear_lowest(rest);
     }
 }
 
@@ -26,13 +52,7 @@ pub fn sum_rows(n: usize, sheet: &[u64], mask: u64) -> [u64; Sheet::VERTICES]
     ensures { λ r. ⌜ RowsSummed n (now (sheet .entry)) mask r ⌝ }
 {
     let mut t = [0u64; Sheet::VERTICES];
-    let mut rest = mask;
-    while rest != 0 {
-        let b = word::lowest_bit(rest);
-        let base = layout::row_base(n, b);
-        add_row(n, sheet, base, &mut t);
-        rest = word::clear_lowest(rest);
-    }
+    add_rows(n, sheet, mask, 0, n, &mut t);
     t
 }
 

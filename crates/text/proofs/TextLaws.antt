@@ -24,12 +24,6 @@ module _ (buffer : List ℕ) (at : ℕ) (b l : List ℕ) (k : ℕ) (e : l ≡ pa
   pub paste-done : k ≡ length b → Put buffer at b l (at + k)
   paste-done d = record { place = ap (λ (x : ℕ). at + x) d; bytes = e ∙ (ap (paste buffer at b) d ∙ sym (pasted-paste buffer at b)) }
 
--- the same from the first place on
-pub front-more : (buffer b l : List ℕ) (k : ℕ) → l ≡ paste buffer 0 b k → k < length b → k < length buffer → set l k (getD b k 0) ≡ paste buffer 0 b (k + 1)
-front-more buffer b l k e h w =
-    let z : k ≡ 0 + k = omega arith in
-    ap (λ (y : ℕ). set l y (getD b k 0)) z ∙ paste-more buffer 0 b l k e h (omega arith)
-
 -- ---- bytes put one after the other
 
 pub put-none : (buffer : List ℕ) (at : ℕ) → Put buffer at [] buffer at

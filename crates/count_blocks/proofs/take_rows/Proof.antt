@@ -1,24 +1,22 @@
 -- `count_blocks::take_rows` meets its contract: the counts from the vertices that are gone from what is left of the mask are taken off.
 -- What is left falls with each turn. Assumes nothing.
-use Prim.Native.Nat.{_+_}
 use native.Mathlib.Omega.{arith}
 use borrow.Author.Tests.{eqb-true, eqb-false}
 use Rattle.word.proofs.CountLaws.{lowest-lt, lowest-cleared-lt}
 use Rattle.word.specs.Wrap.{minus}
 use Rattle.word.proofs.WrapLaws.{minus-wraps}
 use Rattle.sheet.proofs.RowLaws.{Summing, summing-start, summing-more, summing-done}
-use Rattle.count_blocks.proofs.BlockLaws.{block-count}
 use Rattle.count_blocks.proofs.take_rows.Statement.{statement}
 use Rattle.count_blocks.proofs.take_rows.Tie as tie
 
 abbrev Inv-loop : tie.InvT-loop
-Inv-loop n sheet mask c t₀ rest₀ t rest = Summing minus n sheet mask (λ j. c + j) 16 t₀ rest t
+Inv-loop n sheet mask c t₀ rest₀ t rest = Summing minus n sheet mask c 16 t₀ rest t
 
 abbrev μ-loop : tie.MeasureT-loop
 μ-loop n sheet mask c t₀ rest₀ t rest = rest
 
 loop-holds : tie.Need-loop-holds Inv-loop μ-loop
-loop-holds c = summing-start minus-wraps _ _ _ (λ j. c .before .args .c + j) 16 _ (c .before .pre .1)
+loop-holds c = summing-start minus-wraps _ _ _ _ 16 _ (c .before .pre .1)
 
 lowest-bit-requires : tie.Need-lowest-bit-requires Inv-loop μ-loop
 lowest-bit-requires c κs = omega (arith, eqb-false)
@@ -38,14 +36,11 @@ loop-again : tie.Need-loop-again Inv-loop μ-loop
 loop-again c =
     let l = c .before .before .before .before in
     let at = l .before .before in
-    let a = at .before .before .args in
-    summing-more minus-wraps _ _ _ (λ j. a .c + j) 16 _ (at .loop .t) _ _ _ _ _ (omega arith) (at .loop .inv)
-    (l .lowest-bit .ensures) (block-count _ (a .sheet .now) _ _ (a .c) (c .before .before .before .row-base .ensures)) (c .before .take-row .ensures) (c .clear-lowest .ensures)
+    summing-more minus-wraps _ _ _ _ 16 _ (at .loop .t) _ _ _ _ _ (omega arith) (at .loop .inv) (l .lowest-bit .ensures)
+    (c .before .before .before .row-base .ensures) (c .before .take-row .ensures) (c .clear-lowest .ensures)
 
 returns : tie.Need-returns Inv-loop μ-loop
-returns c =
-    let taken = summing-done minus-wraps _ _ _ (λ j. c .before .before .before .args .c + j) 16 _ _ _ (c .before .loop .inv) (omega (arith, eqb-true)) in
-    record { long = taken .long; each = taken .each }
+returns c = summing-done minus-wraps _ _ _ _ 16 _ _ _ (c .before .loop .inv) (omega (arith, eqb-true))
 
 pub take-rows-spec : {M : Type 1} → statement M
 take-rows-spec =

@@ -8,4 +8,4 @@ returns : tie.Need-returns
 returns c = search row-filled
 
 pub fill-row-spec : {M : Type 1} → statement M
-fill-row-spec = tie.close (tie.spec (λ c κs. search needs) (λ c κs. search needs) (λ c. search needs) (λ c κs. search needs) (λ c. search needs) returns)
+fill-row-spec = tie.close (tie.spec (λ c κs. search needs) (λ c. search needs) (λ c κs. search needs) (λ c κs. search needs) (λ c. search needs) returns)

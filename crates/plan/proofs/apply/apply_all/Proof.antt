@@ -14,18 +14,18 @@ returns c =
     let start = words .before .before .before in
     let a = start .args in
     all-refused (a .n) (a .sheet .now) (a .plan .now) _ _ (ends .apply .ensures) (c .before .before .before .before .before .if1 .taken) _ _ _
-    _ (words .word-count .ensures ∙ sym (start .pre .0 .long)) (sheet-long _ _ (start .pre .0)) (kept .copy .ensures) (omega arith) (c .before .before .copy2 .ensures)
+    _ (words .word-count .ensures ∙ sym (start .pre .0 .long)) (sheet-long _ _ (start .pre .0)) (kept .copy-words .ensures) (omega arith) (c .before .before .copy-words2 .ensures)
 
 returns-2 : tie.Need-returns-2
 returns-2 c = search all-accepted
 
-copy-requires : tie.Need-copy-requires
-copy-requires c κs =
+copy-words-requires : tie.Need-copy-words-requires
+copy-words-requires c κs =
     let l = sheet-long _ _ (c .before .before .before .before .before .pre .0) in
     (omega arith, omega (arith, l))
 
-copy-requires-2 : tie.Need-copy-requires-2
-copy-requires-2 c κs =
+copy-words-requires-2 : tie.Need-copy-words-requires-2
+copy-words-requires-2 c κs =
     let start = c .before .before .before .before .before .before .before .before .before .before .before .before .before .before .before in
     let l = sheet-long _ _ (start .pre .0) in
     (omega (arith, l), omega arith)
@@ -33,5 +33,5 @@ copy-requires-2 c κs =
 pub apply-all-spec : {M : Type 1} → statement M
 apply-all-spec =
     tie.close
-    (tie.spec (λ c κs. search needs) (λ c. search needs) copy-requires (λ c κs. search needs) (λ c. search needs) copy-requires-2 (λ c. search needs) returns
+    (tie.spec (λ c κs. search needs) (λ c. search needs) copy-words-requires (λ c κs. search needs) (λ c. search needs) copy-words-requires-2 (λ c. search needs) returns
     (λ c κs. search needs) (λ c κs. search needs) (λ c. search needs) returns-2)

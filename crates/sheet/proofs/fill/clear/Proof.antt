@@ -1,18 +1,17 @@
 -- `sheet::fill::clear` meets its contract: after k turns the first k words are 0. Assumes nothing.
-use mathlib.Core.Path.{_≡_, refl, sym}
+use mathlib.Core.Path.{_≡_, refl}
 use Prim.Native.Nat.{ℕ, _-_, _≤_}
-use native.Mathlib.Nat.{zero-add}
 use native.Mathlib.Omega.{arith}
 use borrow.Author.Needs.{needs}
 use lib.ListN.{length, length-set}
-use Rattle.sheet.specs.Fill.{over}
+use Rattle.sheet.specs.Fill.{puts}
 use Rattle.sheet.proofs.FillLaws.{puts-none, puts-more}
 use Rattle.sheet.proofs.EmptyLaws.{zeros-filled}
 use Rattle.sheet.proofs.fill.clear.Statement.{statement}
 use Rattle.sheet.proofs.fill.clear.Tie as tie
 
 abbrev Inv-loop : tie.InvT-loop
-Inv-loop n sheet₀ words k₀ sheet k = (k ≤ words) × (length sheet ≡ length sheet₀) × (sheet ≡ over sheet₀ 0 (λ (j : ℕ). 0) k)
+Inv-loop n sheet₀ words k₀ sheet k = (k ≤ words) × (length sheet ≡ length sheet₀) × (sheet ≡ puts sheet₀ (λ (j : ℕ). j) (λ (j : ℕ). 0) k)
 
 abbrev μ-loop : tie.MeasureT-loop
 μ-loop n sheet₀ words k₀ sheet k = words - k
@@ -21,7 +20,7 @@ loop-holds : tie.Need-loop-holds Inv-loop μ-loop
 loop-holds c = (omega arith, refl, puts-none _ _ _)
 
 loop-again : tie.Need-loop-again Inv-loop μ-loop
-loop-again c = (omega arith, simp length-set (omega arith), puts-more _ _ _ _ _ _ _ (c .before .loop .inv .2) (sym (zero-add _)) refl)
+loop-again c = (omega arith, simp length-set (omega arith), puts-more _ _ _ _ _ _ _ (c .before .loop .inv .2) refl refl)
 
 same-length : tie.Need-same-length Inv-loop μ-loop
 same-length c = c .before .loop .inv .1

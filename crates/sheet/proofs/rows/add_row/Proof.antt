@@ -1,32 +1,33 @@
 -- `sheet::rows::add_row` meets its contract: after j turns the first j words are added, and the others are as they were. Assumes nothing.
 use mathlib.Core.Path.{_≡_, refl}
-use Prim.Native.Nat.{ℕ, _-_, _≤_}
+use Prim.Native.Nat.{_+_, _-_, _≤_}
 use native.Mathlib.Omega.{arith}
 use borrow.Author.Needs.{needs}
-use lib.ListN.{getD}
+use lib.ListN.{length, getD, length-set}
 use Rattle.word.specs.Wrap.{plus}
-use Rattle.sheet.specs.Internal.{RowBy}
-use Rattle.sheet.proofs.RowLaws.{row-none, row-more, row-kept, row-done}
+use Rattle.sheet.specs.Internal.{rowBy}
+use Rattle.sheet.proofs.FillLaws.{puts-none, puts-done}
+use Rattle.sheet.proofs.RowLaws.{row-more}
 use Rattle.sheet.proofs.rows.add_row.Statement.{statement}
 use Rattle.sheet.proofs.rows.add_row.Tie as tie
 
 abbrev Inv-loop : tie.InvT-loop
-Inv-loop n words base t₀ j₀ t j = (j ≤ n) × (RowBy plus j words base t₀ t) × ((k : ℕ) → j ≤ k → getD t k 0 ≡ getD t₀ k 0)
+Inv-loop n words base t₀ j₀ t j = (j ≤ n) × (length t ≡ length t₀) × (t ≡ rowBy plus j words base t₀)
 
 abbrev μ-loop : tie.MeasureT-loop
 μ-loop n words base t₀ j₀ t j = n - j
 
 loop-holds : tie.Need-loop-holds Inv-loop μ-loop
-loop-holds c = (omega arith, row-none plus _ _ _, λ k h. refl)
+loop-holds c = (omega arith, refl, puts-none _ _ _)
 
 loop-again : tie.Need-loop-again Inv-loop μ-loop
-loop-again c = (omega arith, search row-more, search (row-kept plus))
+loop-again c = (omega arith, simp length-set (omega arith), search row-more)
 
 same-length : tie.Need-same-length Inv-loop μ-loop
-same-length c = c .before .loop .inv .1 .long
+same-length c = c .before .loop .inv .1
 
 returns : tie.Need-returns Inv-loop μ-loop
-returns c = row-done plus _ _ _ _ (c .before .loop .j) _ (c .before .loop .inv .1) (omega arith)
+returns c = puts-done _ _ _ _ (c .before .loop .j) _ (c .before .loop .inv .2) (omega arith)
 
 pub add-row-spec : {M : Type 1} → statement M
 add-row-spec =
