@@ -12,72 +12,59 @@ use lib.Bits.{bitAnd}
 use lib.Dec.{ltb, eqb}
 use lib.ListN.{getD}
 use Rattle.word.specs.Bit.{bit, hasBit, withBit}
-use Rattle.word.proofs.BitLaws.{bit-set-same, bit-set-other, has-true, has-false}
+use Rattle.word.proofs.BitLaws.{bit-lt, bit-set-same, bit-set-other, has-true, has-false}
 use Rattle.word.proofs.MaskLaws.{bit-not, and-zero, and-some}
 use Rattle.graph.specs.Update.{into, out, through, Closes}
-use Rattle.answer.specs.Table.{Conditions, First, firstTrue, Reflects}
+use Rattle.answer.specs.Table.{Conditions, First, Reflects}
 use Rattle.sheet_theory.specs.Layout.{rowAt, countAt, edgeAt}
+use Rattle.sheet_theory.specs.Lent.{Lent, multAt}
 use Rattle.sheet_theory.specs.Conditions.{StrayBit}
-use Rattle.sheet_theory.specs.Internal.{shapeNumber}
 use Rattle.sheet.specs.Internal.{RowBase}
-use Rattle.answer.proofs.TableLaws.{reflects-true, reflects-iff, reflects-not, reflects-eq, reflects-false, first-true, first-only}
-use Rattle.sheet_theory.proofs.ShapeLaws.{sized-stops, sized-passes}
+use Rattle.answer.proofs.TableLaws.{reflects-true, reflects-iff, reflects-not, reflects-eq, reflects-false}
 use Rattle.sheet_theory.proofs.StrayLaws.{stray-iff}
 use Rattle.sheet.proofs.RowLaws.{base-count}
 use Rattle.edit_theory.specs.Edit.{at, oneIf}
-use Rattle.edit_theory.specs.Table.{SomeEdge, argued, effects, SomeOf}
-use Rattle.edit_theory.specs.Outcome.{arguedTests, effectTests}
-use Rattle.edit.specs.Internal.{argumentNumber, effectNumber, Clashes, Meets}
-use Rattle.edit_theory.proofs.TestLaws.{closes-reflects, named-of, named-into, named-out}
-use Rattle.edit_theory.proofs.ConditionLaws.{argued-agree, effects-agree}
+use Rattle.edit_theory.specs.Table.{SomeEdge, SomeOf, argued, mostParallel}
+use Rattle.edit.specs.Internal.{effectsOn, RefusedBits, Meets}
+use Rattle.edit_theory.proofs.TestLaws.{named-of, named-into, named-out}
 
--- ---- masks_number: k is what the check of the shape gave
+-- ---- masks_number
 
-module _ (n len k : ℕ) (e : k ≡ shapeNumber n len) (v a b : ℕ) where
-  abbrev argument : ℕ
-  argument = argumentNumber n len (at v a b)
+module _ (n v a b : ℕ) where
+  abbrev arguments : Conditions
+  arguments = argued n (at v a b) []
 
-  pub masks-stops : (k ≡ 0 → ⊥) → k ≡ argument
-  masks-stops d = sym (sized-stops n len k e (arguedTests n (at v a b) []) d)
-
-  -- past the shape, the number of the first condition that holds is the one that is asked for
-  argument-only : k ≡ 0 → (m : ℕ) → First (argued n (at v a b) []) m → m ≡ argument
-  argument-only z m f =
-      first-only (argued n (at v a b) []) m (firstTrue (arguedTests n (at v a b) [])) f
-      (first-true (argued n (at v a b) []) (arguedTests n (at v a b) []) (argued-agree n (at v a b) [] [] (λ o. tt)))
-      ∙ sym (sized-passes n len k e (arguedTests n (at v a b) []) z)
-
-  pub masks-vertex : k ≡ 0 → n ≤ v → 3 ≡ argument
-  masks-vertex z h = argument-only z 3 (inl (h, refl))
+  pub masks-vertex : n ≤ v → First arguments 3
+  masks-vertex h = inl (h, refl)
 
   there : v < n → ¬ (n ≤ v)
   there h l = omega arith
 
-  pub masks-predecessors : (t : Bool) → k ≡ 0 → v < n → t ≡ ltb a (2 ^ n) → t ≡ false → 4 ≡ argument
-  masks-predecessors t z h et f = argument-only z 4 (inr (there h, inl (inl (stray-iff n a .1 (ltb-false a (2 ^ n) (sym et ∙ f))), refl)))
+  pub masks-predecessors : (t : Bool) → v < n → t ≡ ltb a (2 ^ n) → t ≡ false → First arguments 4
+  masks-predecessors t h et f = inr (there h, inl (inl (stray-iff n a .1 (ltb-false a (2 ^ n) (sym et ∙ f))), refl))
 
-  pub masks-successors : (t : Bool) → k ≡ 0 → v < n → t ≡ ltb b (2 ^ n) → t ≡ false → 4 ≡ argument
-  masks-successors t z h et f = argument-only z 4 (inr (there h, inl (inr (stray-iff n b .1 (ltb-false b (2 ^ n) (sym et ∙ f))), refl)))
+  pub masks-successors : (t : Bool) → v < n → t ≡ ltb b (2 ^ n) → t ≡ false → First arguments 4
+  masks-successors t h et f = inr (there h, inl (inr (stray-iff n b .1 (ltb-false b (2 ^ n) (sym et ∙ f))), refl))
 
-  pub masks-good : (t u : Bool) → k ≡ 0 → v < n → t ≡ ltb a (2 ^ n) → t ≡ true → u ≡ ltb b (2 ^ n) → u ≡ true → 0 ≡ argument
-  masks-good t u z h et p eu q = argument-only z 0 (inr (there h, inr (none, refl)))
+  pub masks-good : (t u : Bool) → v < n → t ≡ ltb a (2 ^ n) → t ≡ true → u ≡ ltb b (2 ^ n) → u ≡ true → First arguments 0
+  masks-good t u h et p eu q = inr (there h, inr (none, refl))
     where
       none : ¬ (StrayBit n a ⊎ StrayBit n b)
       none (inl c) = omega (arith, stray-iff n a .0 c, ltb-true a (2 ^ n) (sym et ∙ p))
       none (inr c) = omega (arith, stray-iff n b .0 c, ltb-true b (2 ^ n) (sym eu ∙ q))
 
--- ---- clashes
+-- ---- refused_bits
 
 module _ (inserts : Bool) (row : ℕ) where
-  pub clashes-there : inserts ≡ true → Clashes inserts row row
-  clashes-there e j h = rw e (λ o. o, λ o. o)
+  pub refused-there : inserts ≡ true → RefusedBits inserts row row
+  refused-there e j h = rw e (λ o. o, λ o. o)
 
-  pub clashes-absent : row < 2 ^ 64 → inserts ≡ false → Clashes inserts row ((2 ^ 64 - 1) - row)
-  clashes-absent l e j h = rw e (λ o. omega (arith, bit-not 64 row j l h), λ o. omega (arith, bit-not 64 row j l h))
+  pub refused-absent : row < 2 ^ 64 → inserts ≡ false → RefusedBits inserts row ((2 ^ 64 - 1) - row)
+  refused-absent l e j h = rw e (λ o. omega (arith, bit-not 64 row j l h), λ o. omega (arith, bit-not 64 row j l h))
 
   -- the test of a bit of what it gave
-  pub clashes-test : (r v : ℕ) (t : Bool) → v < 64 → Clashes inserts row r → t ≡ hasBit r v → Reflects t (bit row v ≡ oneIf inserts)
-  clashes-test r v t h c e = rw e (reflects-iff (c v h .0) (c v h .1) (reflects-eq (bit r v) 1))
+  pub refused-test : (r v : ℕ) (t : Bool) → v < 64 → RefusedBits inserts row r → t ≡ hasBit r v → Reflects t (bit row v ≡ oneIf inserts)
+  refused-test r v t h c e = rw e (reflects-iff (c v h .0) (c v h .1) (reflects-eq (bit r v) 1))
 
 -- ---- some_edge
 
@@ -92,7 +79,7 @@ module _ (inserts : Bool) (n : ℕ) (s : List ℕ) (v a b : ℕ) where
   edge-into t h p e = let c = p .holds e in reflects-true (c .0, c .1, v, h, named-into v a b (c .0) (c .2), c .3)
 
   -- no edge to v is refused, and r has the bits of row v that are
-  pub edge-out : (t : Bool) (r : ℕ) → n ≤ 64 → v < n → b < 2 ^ n → Reflects t Into → t ≡ false → Clashes inserts (rowAt s v) r
+  pub edge-out : (t : Bool) (r : ℕ) → n ≤ 64 → v < n → b < 2 ^ n → Reflects t Into → t ≡ false → RefusedBits inserts (rowAt s v) r
       → Reflects (not (eqb (bitAnd b r) 0)) Some
   edge-out t r small h below p e c = reflects-iff there back (reflects-not (reflects-eq (bitAnd b r) 0))
     where
@@ -152,42 +139,35 @@ module _ (n : ℕ) (s : List ℕ) (v a b : ℕ) (t : Bool) (p : Reflects t (Meet
         ),
       )
 
--- ---- effect_number
+-- ---- edit_number
 
-module _ (n : ℕ) (s : List ℕ) (v a b : ℕ) (inserts : Bool) where
-  abbrev number : ℕ
-  number = effectNumber inserts n s v a b
-
-  -- the conditions of the edges
+module _ (n : ℕ) (s : Lent) (v a b : ℕ) (inserts : Bool) where
   abbrev edges : Conditions
-  edges = effects inserts n (at v a b) (edgeAt s) (Closes n (countAt n s) v (bit a) (bit b))
+  edges = effectsOn inserts n s v a b
 
   -- an edge to be refused, where x is 1 or 0
   abbrev Clash : ℕ → Type 0
-  Clash x = SomeEdge n (at v a b) (λ i j. edgeAt s i j ≡ x)
-
-  -- the number of the first condition that holds is the one that is asked for
-  number-only : (k : ℕ) → First edges k → k ≡ number
-  number-only k f =
-      first-only edges k number f
-      (first-true edges (effectTests n s v a b inserts)
-      (effects-agree n s (at v a b) (edgeAt s) (Closes n (countAt n s) v (bit a) (bit b)) (λ i j hi hj. refl) inserts (λ e p q. closes-reflects n s v a b)))
+  Clash x = SomeEdge n (at v a b) (λ i j. edgeAt (s .words) i j ≡ x)
 
   -- a deletion: t says whether there is an edge that is absent
   module _ (e : inserts ≡ false) (t : Bool) (p : Reflects t (Clash 0)) where
-    pub delete-absent : t ≡ true → 7 ≡ number
-    delete-absent f = number-only 7 (rw e (inl (p .holds f, refl)))
+    pub delete-absent : t ≡ true → First edges 7
+    unfolding effectsOn
+    delete-absent f = rw e (inl (p .holds f, refl))
 
-    pub delete-good : t ≡ false → 0 ≡ number
-    delete-good f = number-only 0 (rw e (inr (reflects-false p .0 f, refl)))
+    pub delete-good : t ≡ false → First edges 0
+    unfolding effectsOn
+    delete-good f = rw e (inr (reflects-false p .0 f, refl))
 
   -- an insertion: t and u say whether v is a predecessor or a successor of itself
   module _ (e : inserts ≡ true) (h : v < n) where
-    pub insert-into : (t : Bool) → t ≡ hasBit a v → t ≡ true → 5 ≡ number
-    insert-into t et f = number-only 5 (rw e (inl ((v, h, v, h, named-into v a b v (has-true a v t et f), refl), refl)))
+    pub insert-into : (t : Bool) → t ≡ hasBit a v → t ≡ true → First edges 5
+    unfolding effectsOn
+    insert-into t et f = rw e (inl ((v, h, v, h, named-into v a b v (has-true a v t et f), refl), refl))
 
-    pub insert-out : (u : Bool) → u ≡ hasBit b v → u ≡ true → 5 ≡ number
-    insert-out u eu f = number-only 5 (rw e (inl ((v, h, v, h, named-out v a b v (has-true b v u eu f), refl), refl)))
+    pub insert-out : (u : Bool) → u ≡ hasBit b v → u ≡ true → First edges 5
+    unfolding effectsOn
+    insert-out u eu f = rw e (inl ((v, h, v, h, named-out v a b v (has-true b v u eu f), refl), refl))
 
     -- neither; w says whether there is an edge that is present
     module _ (t : Bool) (et : t ≡ hasBit a v) (f : t ≡ false) (u : Bool) (eu : u ≡ hasBit b v) (g : u ≡ false) (w : Bool) (p : Reflects w (Clash 1)) where
@@ -198,13 +178,22 @@ module _ (n : ℕ) (s : List ℕ) (v a b : ℕ) (inserts : Bool) where
           (λ o. omega (arith, has-false b v u eu g, rw (sym x ∙ o .0) at (o .1)))
           (named-of v a b i j q)
 
-      pub insert-present : w ≡ true → 6 ≡ number
-      insert-present k = number-only 6 (rw e (inr (no-loop, inl (p .holds k, refl))))
+      -- the most that there may be are there
+      present : Reflects w (SomeEdge n (at v a b) (λ i j. mostParallel ≤ multAt n s i j))
+      present =
+          reflects-iff (λ c. (c .0, c .1, c .2, c .3, c .4, omega (arith, c .5)))
+          (λ c. (c .0, c .1, c .2, c .3, c .4, omega (arith, c .5, bit-lt (rowAt (s .words) (c .0)) (c .2)))) p
+
+      pub insert-present : w ≡ true → First edges 6
+      unfolding effectsOn
+      insert-present k = rw e (inr (no-loop, inl (present .holds k, refl)))
 
       -- no edge is present; r says whether a cycle would close
-      module _ (k : w ≡ false) (r : Bool) (q : Reflects r (Closes n (countAt n s) v (bit a) (bit b))) where
-        pub insert-cycle : r ≡ true → 8 ≡ number
-        insert-cycle z = number-only 8 (rw e (inr (no-loop, inr (reflects-false p .0 k, inl (q .holds z, refl)))))
+      module _ (k : w ≡ false) (r : Bool) (q : Reflects r (Closes n (countAt n (s .words)) v (bit a) (bit b))) where
+        pub insert-cycle : r ≡ true → First edges 8
+        unfolding effectsOn
+        insert-cycle z = rw e (inr (no-loop, inr (reflects-false present .0 k, inl (q .holds z, refl))))
 
-        pub insert-good : r ≡ false → 0 ≡ number
-        insert-good z = number-only 0 (rw e (inr (no-loop, inr (reflects-false p .0 k, inr (reflects-false q .0 z, refl)))))
+        pub insert-good : r ≡ false → First edges 0
+        unfolding effectsOn
+        insert-good z = rw e (inr (no-loop, inr (reflects-false present .0 k, inr (reflects-false q .0 z, refl))))

@@ -1,28 +1,30 @@
--- The core of an edit: the counts and then the rows make the edited sheet; and the ways out of `edit_at` and of the four calls, where k is
--- what the checks gave. Assumes nothing.
-use mathlib.Core.Path.{_≡_, refl, sym, ap, _∙_}
-use mathlib.Core.Bool.{Bool}
-use mathlib.Core.List.{List, [], _++_}
+-- The core of an edit: the counts and then the rows make the edited sheet; and the ways out of `edit_at`, of the cores and of the four
+-- calls. Assumes nothing.
+use mathlib.Core.Path.{_≡_, sym, ap, _∙_}
+use mathlib.Core.Bool.{Bool, true, false}
+use mathlib.Core.List.{List, []}
 use Prim.Native.Nat.{ℕ, _*_, _%_, _^_, _<_}
 use native.Mathlib.Omega.{arith}
 use lib.ListN.{length}
 use Rattle.word.proofs.MaskLaws.{one-shl}
 use Rattle.answer.specs.declared.Answer.{Answer}
-use Rattle.answer.specs.Table.{First, Tests, firstTrue}
+use Rattle.answer.specs.Table.{Conditions, First}
 use Rattle.answer.specs.Answers.{answer, decided, answered}
 use Rattle.sheet_theory.specs.Layout.{size, setBits}
-use Rattle.sheet_theory.specs.Conditions.{sized, sizedTests}
-use Rattle.sheet_theory.specs.Internal.{verticesNumber}
-use Rattle.answer.proofs.TableLaws.{first-true, Refusing, first-stops, first-passes, first-past}
-use Rattle.answer.proofs.AnswerLaws.{answered-refused, answered-accepted, decided-refused, decided-accepted}
-use Rattle.sheet_theory.proofs.ShapeLaws.{sized-agree, accepted-shape, vertices-below}
+use Rattle.sheet_theory.specs.Lent.{Lent, lent, Lends}
+use Rattle.sheet_theory.specs.Conditions.{altering}
+use Rattle.answer.proofs.TableLaws.{first-only}
+use Rattle.answer.proofs.AnswerLaws.{decided-old, answered-not, refused-as}
+use Rattle.sheet_theory.proofs.ShapeLaws.{shape-refused, shape-of, shape-passed, vertex-below}
 use Rattle.sheet_theory.proofs.LayoutLaws.{length-redone, row-redone, count-redone, rest-redone, redone-ext}
-use Rattle.edit_theory.specs.Edit.{Edges, one, at, Edit, vertexOf, predecessorsOf, successorsOf, edgeEdit}
-use Rattle.edit_theory.specs.Table.{argued}
-use Rattle.edit_theory.specs.Outcome.{arguedTests, effectTests, editedRow, edited, editNumber, editWords, editAnswer, editAfter}
+use Rattle.edit_theory.specs.Edit.{Edges, one, at, Edit, edgeEdit, edgesEdit, vertexOf, predecessorsOf, successorsOf}
+use Rattle.edit_theory.specs.Book.{opened}
+use Rattle.edit_theory.specs.Table.{argued, mostParallel, effects}
+use Rattle.edit_theory.specs.Outcome.{editedRow, edited, editGrounds, editConditions, editNumber, editWords, editAnswer, editAfter}
 use Rattle.edit_counts.specs.Internal.{Ready, countsEdited}
-use Rattle.edit.specs.Internal.{argumentNumber, effectNumber, effectAnswer, effectAfter, rowsEdited}
-use Rattle.edit_theory.proofs.ConditionLaws.{argued-agree, argued-past}
+use Rattle.edit.specs.Internal.{askedOn, effectsOn, Made, Edited, rowsEdited}
+use Rattle.edit_theory.proofs.ConditionLaws.{argued-refused, argued-passed, argued-past}
+use Rattle.edit_theory.proofs.Refusals.{edit-first}
 
 -- ---- the counts and then the rows
 
@@ -41,96 +43,99 @@ counts-rows inserts n s v a b long =
     same : length t ≡ length s
     same = length-redone n _ _ s
 
--- ---- the ways out of `edit_at`: k is what its checks gave, u is the sheet once the counts are edited, w once the rows are
+-- ---- made or not, by the number k that the checks gave
 
-module _ (inserts : Bool) (n : ℕ) (s : List ℕ) (v a b k : ℕ) (ek : k ≡ effectNumber inserts n s v a b) where
-  module _ (d : k ≡ 0 → ⊥) where
-    pub effect-refused : (r : Answer) → r ≡ answer k 0 0 → r ≡ effectAnswer inserts n s v a b
-    effect-refused r er = answered-refused k _ ek _ r d er
+module _ (cs : Conditions) (e : Edit) (s : Lent) (k : ℕ) (f : First cs k) (r : Answer) where
+  made-refused : (k ≡ 0 → ⊥) → r ≡ answer k 0 0 → Made cs e s r s
+  made-refused d er = rw er (record { number = f; answers = sym (answered-not k _ d); leaves = sym (decided-old k _ s d) })
 
-    pub effect-kept : s ≡ effectAfter inserts n s v a b
-    effect-kept = decided-refused k _ ek _ s d
+  made-accepted : (w : List ℕ) (x : ℕ) → k ≡ 0 → w ≡ editWords e s → x ≡ setBits (e .vertices) w → r ≡ answer 0 0 x → Made cs e s r (lent w)
+  made-accepted w x z ew ex er =
+      rw er (record { number = rw z at f; answers = ap (answer 0 0) (ex ∙ ap (setBits (e .vertices)) ew); leaves = ap lent ew })
 
-  module _ (z : k ≡ 0) (u w : List ℕ) (h : Ready n s v a b) (eu : u ≡ countsEdited inserts n s v a b) (ew : w ≡ rowsEdited inserts n u v a b) where
-    words : w ≡ edited inserts n s v a b
-    words = ew ∙ ap (λ (t : List ℕ). rowsEdited inserts n t v a b) eu ∙ counts-rows inserts n s v a b (h .shape .long)
+-- the ways out of `edit_at`: u is the sheet once the counts are edited, w once the rows are
+module _ (inserts : Bool) (n : ℕ) (s : Lent) (v a b k : ℕ) (f : First (effectsOn inserts n s v a b) k) (r : Answer) where
+  abbrev Done : Lent → Type 0
+  Done t = Made (effectsOn inserts n s v a b) (edgesEdit inserts n v a b) s r t
 
-    pub effect-accepted : (x : ℕ) (r : Answer) → x ≡ setBits n w → r ≡ answer 0 0 x → r ≡ effectAnswer inserts n s v a b
-    effect-accepted x r ex er = answered-accepted k _ ek _ r z (er ∙ ap (λ (y : ℕ). answer 0 0 y) (ex ∙ ap (setBits n) words))
+  pub effect-refused : (k ≡ 0 → ⊥) → r ≡ answer k 0 0 → Done s
+  effect-refused = made-refused (effectsOn inserts n s v a b) (edgesEdit inserts n v a b) s k f r
 
-    pub effect-done : w ≡ effectAfter inserts n s v a b
-    effect-done = decided-accepted k _ ek _ s w z words
+  pub effect-made : k ≡ 0 → (u w : List ℕ) → Ready n (s .words) v a b → u ≡ countsEdited inserts n (s .words) v a b
+      → w ≡ rowsEdited inserts n u v a b → (x : ℕ) → x ≡ setBits n w → r ≡ answer 0 0 x → Done (lent w)
+  effect-made z u w h eu ew x =
+      made-accepted (effectsOn inserts n s v a b) (edgesEdit inserts n v a b) s k f r w x z
+      (ew ∙ ap (λ (t : List ℕ). rowsEdited inserts n t v a b) eu ∙ counts-rows inserts n (s .words) v a b (h .shape .long))
 
--- ---- the arguments
+-- ---- the cores: k is the number that the arguments gave
 
--- the tests of the arguments of the edges g
-abbrev argumentTests : ℕ → ℕ → Edges → Tests
-argumentTests n len g = sizedTests n len (arguedTests n g [])
+-- refused by an argument
+pub core-refused : (e : Edit) (s : Lent) (k : ℕ) → First (argued (e .vertices) (e .edges) []) k → (r : Answer) → (k ≡ 0 → ⊥) → r ≡ answer k 0 0
+    → Edited e s r s
+unfolding askedOn
+core-refused e s k f r d = made-refused (askedOn e s) e s k (argued-refused (e .vertices) (e .edges) _ k f d) r d
 
-arguments-first : (n len : ℕ) (g : Edges) (l : Tests) → sizedTests n len (arguedTests n g l) ≡ argumentTests n len g ++ l
-arguments-first n len (one u v) l = refl
-arguments-first n len (at v a b) l = refl
+-- or as `edit_at` answers
+module _ (n : ℕ) (s : Lent) (shape : Lends n s) (k : ℕ) (z : k ≡ 0) where
+  ready : (g : Edges) → First (argued n g []) k → Ready n (s .words) (vertexOf g) (predecessorsOf g) (successorsOf g)
+  ready g f =
+      let a = argued-past n g [] (rw z at f) .0 in
+      record { shape = shape; vertex = a .vertex; predecessors = a .predecessors; successors = a .successors }
 
-arguments-refusing : (n len : ℕ) (g : Edges) → Refusing (argumentTests n len g)
-arguments-refusing n len (one u v) = (omega arith, (omega arith, (omega arith, tt)))
-arguments-refusing n len (at v a b) = (omega arith, (omega arith, (omega arith, (omega arith, tt))))
+  module _ (v a b : ℕ) (f : First (argued n (at v a b) []) k) where
+    pub masks-ready : Ready n (s .words) v a b
+    masks-ready = ready (at v a b) f
 
-module _ (n : ℕ) (s : List ℕ) where
-  -- 0 says that the arguments are in order
-  arguments-ready : (g : Edges) → argumentNumber n (length s) g ≡ 0 → Ready n s (vertexOf g) (predecessorsOf g) (successorsOf g)
-  arguments-ready g e =
-      let agree = sized-agree n s (argued n g []) (arguedTests n g []) (λ h. argued-agree n g [] [] (λ a. tt)) in
-      let first : First (sized n s (argued n g [])) 0 = rw e at (first-true (sized n s (argued n g [])) (argumentTests n (length s) g) agree) in
-      let a = argued-past n g [] (first-past (first-past first .1) .1) .0 in
-      record { shape = accepted-shape n s (argued n g []) first; vertex = a .vertex; predecessors = a .predecessors; successors = a .successors }
+    pub masks-edited : (inserts : Bool) (r : Answer) (t : Lent) → Made (effectsOn inserts n s v a b) (edgesEdit inserts n v a b) s r t
+        → Edited (edgesEdit inserts n v a b) s r t
+    unfolding askedOn effectsOn
+    masks-edited inserts r t h = record {
+      number = argued-passed n (at v a b) (effectsOn inserts n s v a b) _ (rw z at f) (h .number);
+      answers = h .answers;
+      leaves = h .leaves;
+    }
 
-  pub masks-ready : (v a b k : ℕ) → k ≡ argumentNumber n (length s) (at v a b) → k ≡ 0 → Ready n s v a b
-  masks-ready v a b k ek z = arguments-ready (at v a b) (sym ek ∙ z)
+  -- one edge is the edit at its start with the mask 1 << v, as a word 1 * 2 ^ v modulo 2 ^ 64
+  same-effects : (d : Bool) (u v j : ℕ) → First (effectsOn d n s u 0 (2 ^ v)) j
+      → First (effects d n mostParallel (one u v) (opened n s) (editGrounds (edgeEdit d n u v) s)) j
+  unfolding effectsOn
+  same-effects true u v j f = f
+  same-effects false u v j f = f
 
--- ---- the ways out of the calls: refused by an argument, or as `edit_at` answers
+  module _ (u v : ℕ) (f : First (argued n (one u v) []) k) where
+    pub edge-shifts : v < 64
+    edge-shifts = let b = vertex-below n u v [] (rw z at f) in omega (arith, shape .high)
 
-module _ (e : Edit) (s : List ℕ) (k : ℕ) (ek : k ≡ argumentNumber (e .vertices) (length s) (e .edges)) where
-  -- the tests of the arguments of e, and those of its edges
-  abbrev before : Tests
-  before = argumentTests (e .vertices) (length s) (e .edges)
+    pub edge-ready : Ready n (s .words) u 0 (1 * 2 ^ v % 2 ^ 64)
+    edge-ready = rw (one-shl v edge-shifts) (ready (one u v) f)
 
-  abbrev behind : Tests
-  behind = effectTests (e .vertices) s (vertexOf (e .edges)) (predecessorsOf (e .edges)) (successorsOf (e .edges)) (e .inserts)
+    pub edge-edited : (inserts : Bool) (r : Answer) (t : Lent)
+        → Made (effectsOn inserts n s u 0 (1 * 2 ^ v % 2 ^ 64)) (edgesEdit inserts n u 0 (1 * 2 ^ v % 2 ^ 64)) s r t → Edited (edgeEdit inserts n u v) s r t
+    unfolding askedOn
+    edge-edited inserts r t made =
+        let h : Made (effectsOn inserts n s u 0 (2 ^ v)) (edgesEdit inserts n u 0 (2 ^ v)) s r t = rw (one-shl v edge-shifts) at made in
+        record {
+          number = argued-passed n (one u v) (effects inserts n mostParallel (one u v) (opened n s) (editGrounds (edgeEdit inserts n u v) s)) _
+              (rw z at f) (same-effects inserts u v _ (h .number));
+          answers = h .answers;
+          leaves = h .leaves;
+        }
 
-  joined : firstTrue (before ++ behind) ≡ editNumber e s
-  joined = ap firstTrue (sym (arguments-first (e .vertices) (length s) (e .edges) behind))
+-- ---- the calls: k is the number that every altering call looks for first
 
-  stopped : (k ≡ 0 → ⊥) → k ≡ editNumber e s
-  stopped d = ek ∙ sym (first-stops before behind (λ z. d (ek ∙ z))) ∙ joined
+module _ (e : Edit) (s : Lent) (k : ℕ) (f : First (altering (e .vertices) s []) k) (r : Answer) where
+  pub call-refused : (k ≡ 0 → ⊥) → r ≡ answer k 0 0 → (r ≡ editAnswer e s) × (s ≡ editAfter e s)
+  unfolding askedOn
+  call-refused d er =
+      refused-as (editConditions e s) k _ (shape-refused (e .vertices) s k f d (askedOn e s)) (edit-first e s) (lent (editWords e s)) s _ r d er
 
-  passes : k ≡ 0 → firstTrue behind ≡ editNumber e s
-  passes z = sym (first-passes before behind (arguments-refusing (e .vertices) (length s) (e .edges)) (sym ek ∙ z)) ∙ joined
-
-  pub call-refused : (r : Answer) → (k ≡ 0 → ⊥) → r ≡ answer k 0 0 → r ≡ editAnswer e s
-  call-refused r d er = answered-refused k _ (stopped d) _ r d er
-
-  pub call-kept : (k ≡ 0 → ⊥) → s ≡ editAfter e s
-  call-kept d = decided-refused k _ (stopped d) _ s d
-
-  pub call-answered : (r : Answer) → k ≡ 0
-      → r ≡ effectAnswer (e .inserts) (e .vertices) s (vertexOf (e .edges)) (predecessorsOf (e .edges)) (successorsOf (e .edges)) → r ≡ editAnswer e s
-  call-answered r z er = er ∙ ap (λ (y : ℕ). answered y (setBits (e .vertices) (editWords e s))) (passes z)
-
-  pub call-done : (t : List ℕ) → k ≡ 0
-      → t ≡ effectAfter (e .inserts) (e .vertices) s (vertexOf (e .edges)) (predecessorsOf (e .edges)) (successorsOf (e .edges)) → t ≡ editAfter e s
-  call-done t z et = et ∙ ap (λ (y : ℕ). decided y (editWords e s) s) (passes z)
-
--- ---- one edge: its mask is 1 << v, as a word 1 * 2 ^ v modulo 2 ^ 64
-
-module _ (n : ℕ) (s : List ℕ) (u v k : ℕ) (ek : k ≡ verticesNumber n (length s) u v) (z : k ≡ 0) where
-  pub edge-shifts : v < 64
-  edge-shifts = let b = vertices-below n s u v k ek z in omega arith
-
-  pub edge-ready : Ready n s u 0 (1 * 2 ^ v % 2 ^ 64)
-  edge-ready = rw (one-shl v edge-shifts) (arguments-ready n s (one u v) (sym ek ∙ z))
-
-  pub edge-answered : (inserts : Bool) (r : Answer) → r ≡ effectAnswer inserts n s u 0 (1 * 2 ^ v % 2 ^ 64) → r ≡ editAnswer (edgeEdit inserts n u v) s
-  edge-answered inserts r er = call-answered (edgeEdit inserts n u v) s k ek r z (rw (one-shl v edge-shifts) at er)
-
-  pub edge-done : (inserts : Bool) (t : List ℕ) → t ≡ effectAfter inserts n s u 0 (1 * 2 ^ v % 2 ^ 64) → t ≡ editAfter (edgeEdit inserts n u v) s
-  edge-done inserts t et = call-done (edgeEdit inserts n u v) s k ek t z (rw (one-shl v edge-shifts) at et)
+  -- the number of the core is the call's
+  pub call-edited : (t : Lent) → k ≡ 0 → Edited e s r t → (r ≡ editAnswer e s) × (t ≡ editAfter e s)
+  unfolding askedOn
+  call-edited t z h =
+      let q : r .number ≡ editNumber e s =
+      first-only (editConditions e s) (r .number) (editNumber e s)
+      (shape-passed (e .vertices) s (shape-of (e .vertices) s k f z) (askedOn e s) _ (h .number)) (edit-first e s) in (
+        h .answers ∙ ap (λ (y : ℕ). answered y (setBits (e .vertices) (editWords e s))) q,
+        h .leaves ∙ ap (λ (y : ℕ). decided y (lent (editWords e s)) s) q,
+      )

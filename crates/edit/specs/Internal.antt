@@ -2,39 +2,43 @@
 use mathlib.Core.Path.{_≡_}
 use mathlib.Core.Logic.{_↔_}
 use mathlib.Core.Bool.{Bool}
-use mathlib.Core.List.{List, []}
+use mathlib.Core.List.{List}
 use Prim.Native.Nat.{ℕ, _<_}
 use Rattle.word.specs.Bit.{bit, hasBit}
 use Rattle.answer.specs.declared.Answer.{Answer}
-use Rattle.answer.specs.Table.{firstTrue}
+use Rattle.answer.specs.Table.{Conditions, First}
 use Rattle.answer.specs.Answers.{decided, answered}
 use Rattle.sheet_theory.specs.Layout.{countAt, setBits, redone}
-use Rattle.sheet_theory.specs.Conditions.{sizedTests}
-use Rattle.edit_theory.specs.Edit.{Edges, oneIf, marked}
-use Rattle.edit_theory.specs.Table.{SomeOf}
-use Rattle.edit_theory.specs.Outcome.{arguedTests, effectTests, editedRow, edited}
+use Rattle.sheet_theory.specs.Lent.{Lent, lent}
+use Rattle.edit_theory.specs.Edit.{at, Edit, edgesEdit, oneIf, marked}
+use Rattle.edit_theory.specs.Book.{opened}
+use Rattle.edit_theory.specs.Table.{SomeOf, mostParallel, effects, asked}
+use Rattle.edit_theory.specs.Outcome.{editedRow, editGrounds, editWords}
 
 -- ---- the core
 
--- the number that the arguments give, of len words
-abbrev pub argumentNumber : ℕ → ℕ → Edges → ℕ
-argumentNumber n len g = firstTrue (sizedTests n len (arguedTests n g []))
+-- the conditions on s from 3 on of the edit e, and from 5 on of the edit at v by the masks a and b
+unfoldable pub askedOn : Edit → Lent → Conditions
+askedOn e s = asked e mostParallel (opened (e .vertices) s) (editGrounds e s)
 
--- the number that the edges give, and with it what the edit at v by the masks a and b answers and leaves
-abbrev pub effectNumber : Bool → ℕ → List ℕ → ℕ → ℕ → ℕ → ℕ
-effectNumber inserts n s v a b = firstTrue (effectTests n s v a b inserts)
+unfoldable pub effectsOn : Bool → ℕ → Lent → ℕ → ℕ → ℕ → Conditions
+effectsOn inserts n s v a b = effects inserts n mostParallel (at v a b) (opened n s) (editGrounds (edgesEdit inserts n v a b) s)
 
-abbrev pub effectAnswer : Bool → ℕ → List ℕ → ℕ → ℕ → ℕ → Answer
-effectAnswer inserts n s v a b = answered (effectNumber inserts n s v a b) (setBits n (edited inserts n s v a b))
+-- e on s answers r and leaves t, by the first of the conditions cs that holds
+pub record Made (cs : Conditions) (e : Edit) (s : Lent) (r : Answer) (t : Lent) : Type 0 where
+  pub number : First cs (r .number)
+  pub answers : r ≡ answered (r .number) (setBits (e .vertices) (editWords e s))
+  pub leaves : t ≡ decided (r .number) (lent (editWords e s)) s
 
-abbrev pub effectAfter : Bool → ℕ → List ℕ → ℕ → ℕ → ℕ → List ℕ
-effectAfter inserts n s v a b = decided (effectNumber inserts n s v a b) (edited inserts n s v a b) s
+-- the same by all of its conditions from 3 on
+abbrev pub Edited : Edit → Lent → Answer → Lent → Type 0
+Edited e s r t = Made (askedOn e s) e s r t
 
 -- ---- checks
 
 -- the bits of r are those of the row at which an edge would be refused: set where an insertion finds an edge and a deletion none
-abbrev pub Clashes : Bool → ℕ → ℕ → Type 0
-Clashes inserts row r = (j : ℕ) → j < 64 → (bit r j ≡ 1) ↔ (bit row j ≡ oneIf inserts)
+abbrev pub RefusedBits : Bool → ℕ → ℕ → Type 0
+RefusedBits inserts row r = (j : ℕ) → j < 64 → (bit r j ≡ 1) ↔ (bit row j ≡ oneIf inserts)
 
 -- a count from x to a vertex of the mask is not 0
 abbrev pub Meets : ℕ → List ℕ → ℕ → ℕ → Type 0

@@ -1,31 +1,22 @@
 // What an edit is refused by, in the table's order. Nothing is written here.
 ghost use mathlib.Core.Path.{_≡_};
+ghost use mathlib.Core.List.{[]};
 ghost use Prim.Native.Nat.{ℕ, _<_, _^_};
 ghost use Rattle.graph.specs.Update.{Closes};
 ghost use Rattle.word.specs.Bit.{bit};
-ghost use Rattle.answer.specs.Table.{Reflects};
+ghost use Rattle.answer.specs.Table.{First, Reflects};
 ghost use Rattle.sheet_theory.specs.Layout.{Shape, countAt, edgeAt};
+ghost use Rattle.sheet_theory.specs.Lent.{lent};
 ghost use Rattle.edit_theory.specs.Edit.{at, oneIf};
-ghost use Rattle.edit_theory.specs.Table.{SomeEdge, SomeOf};
+ghost use Rattle.edit_theory.specs.Table.{SomeEdge, SomeOf, argued};
 ghost use Rattle.edit_counts.specs.Internal.{Ready};
-ghost use Rattle.edit.specs.Internal.{argumentNumber, effectNumber, Clashes, Meets};
+ghost use Rattle.edit.specs.Internal.{effectsOn, RefusedBits, Meets};
 use sheet::Refusal;
 
-// 1 if n is not 1 to 64, else 2 if a sheet of n vertices has not so many words, else 3 if there is no vertex v, else 4 if a mask has
-// a bit at n or above, else 0.
-pub(crate) fn masks_number(
-    n: usize,
-    words: usize,
-    v: usize,
-    predecessors: u64,
-    successors: u64,
-) -> u64
-    ensures { λ r. ⌜ r ≡ argumentNumber n words (at v predecessors successors) ⌝ }
+// 3 if there is no vertex v, else 4 if a mask has a bit at n or above, else 0.
+pub(crate) fn masks_number(n: usize, v: usize, predecessors: u64, successors: u64) -> u64
+    ensures { λ r. ⌜ First (argued n (at v predecessors successors) []) r ⌝ }
 {
-    let number = sheet::checks::shape_number(n, words);
-    if number != 0 {
-        return number;
-    }
     if n <= v {
         return Refusal::VERTEX;
     }
@@ -39,8 +30,8 @@ pub(crate) fn masks_number(
 }
 
 // The bits of a row at which an insertion finds an edge, or a deletion misses one.
-fn clashes(inserts: bool, row: u64) -> u64
-    ensures { λ r. ⌜ Clashes inserts row r ⌝ }
+fn refused_bits(inserts: bool, row: u64) -> u64
+    ensures { λ r. ⌜ RefusedBits inserts row r ⌝ }
 {
     if inserts {
         return row;
@@ -56,7 +47,7 @@ fn some_into(inserts: bool, n: usize, sheet: &[u64], v: usize, mask: u64) -> boo
     let mut rest = mask;
     while rest != 0 {
         let i = word::lowest_bit(rest);
-        if word::test_bit(clashes(inserts, sheet[i]), v) {
+        if word::test_bit(refused_bits(inserts, sheet[i]), v) {
             return true;
         }
         rest = word::clear_lowest(rest);
@@ -79,7 +70,7 @@ fn some_edge(
     if some_into(inserts, n, sheet, v, predecessors) {
         return true;
     }
-    successors & clashes(inserts, sheet[v]) != 0
+    successors & refused_bits(inserts, sheet[v]) != 0
 }
 
 // Whether a count from x to a vertex of the mask is not 0.
@@ -127,8 +118,9 @@ fn closes_cycle(n: usize, sheet: &[u64], v: usize, predecessors: u64, successors
     some_meets(n, sheet, successors, word::set_bit(predecessors, v))
 }
 
-// 5, 6 or 8 for an insertion, 7 for a deletion, else 0.
-pub(crate) fn effect_number(
+// Internal: the number of an edit at v whose arguments are in order, with nothing written: 5, 6 or 8 for an insertion, 7 for a deletion,
+// else 0.
+pub fn edit_number(
     inserts: bool,
     n: usize,
     sheet: &[u64],
@@ -137,7 +129,7 @@ pub(crate) fn effect_number(
     successors: u64,
 ) -> u64
     requires { ⌜ Ready n (now sheet) v predecessors successors ⌝ }
-    ensures { λ r. ⌜ r ≡ effectNumber inserts n (now (sheet .entry)) v predecessors successors ⌝ }
+    ensures { λ r. ⌜ First (effectsOn inserts n (lent (now (sheet .entry))) v predecessors successors) r ⌝ }
 {
     if !inserts {
         if some_edge(false, n, sheet, v, predecessors, successors) {

@@ -19,7 +19,7 @@ returns-2 c =
     edge-out (a .inserts) (a .n) (a .sheet .now) (a .v) (a .predecessors) (a .successors) _ _ (p .shape .high) (p .vertex) (p .successors)
     (i .before .some-into .ensures)
     (i .if1 .left)
-    (c .clashes .ensures)
+    (c .refused-bits .ensures)
 
 pub some-edge-spec : {M : Type 1} → statement M
 some-edge-spec = tie.close (tie.spec (λ c κs. search needs) returns (λ c. search needs) (λ c. omega (arith, rows-within)) (λ c κs. search needs) returns-2)

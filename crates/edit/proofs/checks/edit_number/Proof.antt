@@ -1,9 +1,9 @@
--- `edit::checks::effect_number` meets its contract: each way out is a law of CheckLaws. Assumes nothing.
+-- `edit::checks::edit_number` meets its contract: each way out is a law of CheckLaws. Assumes nothing.
 use borrow.Author.Needs.{needs}
 use borrow.Author.Tests.{not-true, not-false}
 use Rattle.edit.proofs.CheckLaws.{delete-absent, delete-good, insert-into, insert-out, insert-present, insert-cycle, insert-good}
-use Rattle.edit.proofs.checks.effect_number.Statement.{statement}
-use Rattle.edit.proofs.checks.effect_number.Tie as tie
+use Rattle.edit.proofs.checks.edit_number.Statement.{statement}
+use Rattle.edit.proofs.checks.edit_number.Tie as tie
 
 returns : tie.Need-returns
 returns c = search (delete-absent, not-true)
@@ -26,8 +26,8 @@ returns-6 c = search (insert-cycle, not-false)
 returns-7 : tie.Need-returns-7
 returns-7 c = search (insert-good, not-false)
 
-pub effect-number-spec : {M : Type 1} → statement M
-effect-number-spec =
+pub edit-number-spec : {M : Type 1} → statement M
+edit-number-spec =
     tie.close
     (tie.spec (λ c κs. search needs) returns returns-2 (λ c κs. search needs) returns-3 (λ c κs. search needs) returns-4 (λ c κs. search needs)
     returns-5 (λ c κs. search needs) returns-6 returns-7)
