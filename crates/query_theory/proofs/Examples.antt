@@ -7,6 +7,7 @@ use Rattle.sums.specs.Sum.{sum}
 use Rattle.answer.specs.Table.{firstTrue}
 use Rattle.answer.specs.Answers.{answer}
 use Rattle.sheet_theory.specs.Layout.{size}
+use Rattle.sheet_theory.specs.Lent.{lent}
 use Rattle.sheet_theory.proofs.Examples.{D}
 use Rattle.query_theory.specs.Walk.{headed, tryEdge, tried, walked}
 use Rattle.query_theory.specs.Number.{passed, passedOver, end}
@@ -17,22 +18,22 @@ use Rattle.query_theory.specs.Rank.{someNoVertex, gap, broken, rankAnswe
 -- ---- the answers
 
 -- 10 comes before 11
-pub short-buffer : unrankAnswer 5 D 0 3 2 4 ≡ answer 10 0 0
+pub short-buffer : unrankAnswer 5 (lent D) 0 3 2 4 ≡ answer 10 0 0
 unfolding D size firstTrue
 short-buffer = refl
 
 -- a vertex that is not there is found wherever it stands, before a missing edge
-pub no-vertex : rankAnswer 5 D (0 ∷ 3 ∷ 5 ∷ []) ≡ answer 3 0 0
+pub no-vertex : rankAnswer 5 (lent D) (0 ∷ 3 ∷ 5 ∷ []) ≡ answer 3 0 0
 unfolding D size firstTrue someNoVertex
 no-vertex = refl
 
 -- 3 is looked for in the edge's vertices too, before 7
-pub edge-no-vertex : reachesWithoutAnswer 5 D 0 3 5 1 ≡ answer 3 0 0
+pub edge-no-vertex : reachesWithoutAnswer 5 (lent D) 0 3 5 1 ≡ answer 3 0 0
 unfolding D size firstTrue
 edge-no-vertex = refl
 
 -- 3 comes before 10
-pub vertex-before-buffer : unrankAnswer 5 D 5 3 2 4 ≡ answer 3 0 0
+pub vertex-before-buffer : unrankAnswer 5 (lent D) 5 3 2 4 ≡ answer 3 0 0
 unfolding D size firstTrue
 vertex-before-buffer = refl
 
@@ -59,7 +60,7 @@ pub round : List ℕ
 round = 6 ∷ 0 ∷ 1 ∷ 0 ∷ 2 ∷ 0 ∷ 0 ∷ 1 ∷ 0 ∷ 0 ∷ 1 ∷ 0 ∷ []
 
 -- with three vertices it does not arrive
-pub too-far : unrankAnswer 3 round 0 1 1 3 ≡ answer 9 0 0
+pub too-far : unrankAnswer 3 (lent round) 0 1 1 3 ≡ answer 9 0 0
 unfolding round size firstTrue walked tried tryEdge headed
 too-far = refl
 
@@ -68,12 +69,12 @@ pub pair : ℕ → List ℕ
 pair c = 2 ∷ 0 ∷ 4294967296 ∷ c ∷ 0 ∷ 4294967296 ∷ []
 
 -- the product is 0 modulo 2 ^ 64
-pub wraps : (reachesWithoutAnswer 2 (pair 0) 0 1 0 1 ≡ answer 0 0 0) × (reachesWithoutAnswer 2 (pair 1) 0 1 0 1 ≡ answer 0 0 1)
+pub wraps : (reachesWithoutAnswer 2 (lent (pair 0)) 0 1 0 1 ≡ answer 0 0 0) × (reachesWithoutAnswer 2 (lent (pair 1)) 0 1 0 1 ≡ answer 0 0 1)
 unfolding pair size firstTrue reachesWithout
 wraps = (refl, refl)
 
 -- k is not 0 on arriving
-pub left-over : unrankAnswer 2 (pair 2) 0 1 1 2 ≡ answer 9 0 0
+pub left-over : unrankAnswer 2 (lent (pair 2)) 0 1 1 2 ≡ answer 9 0 0
 unfolding pair size firstTrue walked tried tryEdge headed
 left-over = refl
 
@@ -81,7 +82,7 @@ left-over = refl
 pub over : List ℕ
 over = 7 ∷ 0 ∷ 0 ∷ 0 ∷ 0 ∷ 9223372036854775808 ∷ 0 ∷ 0 ∷ 9223372036854775813 ∷ 0 ∷ 0 ∷ 0 ∷ []
 
-pub rank-wraps : rankAnswer 3 over (0 ∷ 2 ∷ []) ≡ answer 0 0 5
+pub rank-wraps : rankAnswer 3 (lent over) (0 ∷ 2 ∷ []) ≡ answer 0 0 5
 unfolding over size firstTrue someNoVertex broken gap passedOver passed sum end
 rank-wraps = refl
 
@@ -95,7 +96,7 @@ twice =
     ∷ 0 ∷ 0 ∷ 0 ∷ 0
     ∷ []
 
-pub rank-past-its-end : rankAnswer 4 twice (0 ∷ 2 ∷ 0 ∷ 2 ∷ []) ≡ answer 0 0 2
+pub rank-past-its-end : rankAnswer 4 (lent twice) (0 ∷ 2 ∷ 0 ∷ 2 ∷ []) ≡ answer 0 0 2
 unfolding twice size firstTrue someNoVertex broken gap passedOver passed sum end
 rank-past-its-end = refl
 

@@ -12,6 +12,7 @@ use Rattle.answer.specs.declared.Answer.{Answer}
 use Rattle.answer.specs.Table.{_gives_, Conditions, Tests, firstTrue}
 use Rattle.answer.specs.Answers.{answered}
 use Rattle.sheet_theory.specs.Layout.{countAt, edgeAt}
+use Rattle.sheet_theory.specs.Lent.{Lent}
 use Rattle.sheet_theory.specs.Conditions.{NoVertex, sized, sizedTests}
 use Rattle.query_theory.specs.Number.{passedOver, end}
 
@@ -42,21 +43,21 @@ unfoldable pub broken : ℕ → List ℕ → List ℕ → Bool
 broken n s p = eqb (length p) 0 || (ltb n (length p) || gap s p)
 
 -- of a path as it is given
-abbrev pub pathConditions : ℕ → List ℕ → List ℕ → Conditions
-pathConditions n s p = SomeNoVertex n p gives 3 ∷ Broken n s p gives 12 ∷ []
+abbrev pub pathConditions : ℕ → Lent → List ℕ → Conditions
+pathConditions n s p = SomeNoVertex n p gives 3 ∷ Broken n (s .words) p gives 12 ∷ []
 
-abbrev pub pathTests : ℕ → List ℕ → List ℕ → Tests
-pathTests n s p = someNoVertex n p gives 3 ∷ broken n s p gives 12 ∷ []
+abbrev pub pathTests : ℕ → Lent → List ℕ → Tests
+pathTests n s p = someNoVertex n p gives 3 ∷ broken n (s .words) p gives 12 ∷ []
 
-abbrev pub rankConditions : ℕ → List ℕ → List ℕ → Conditions
+abbrev pub rankConditions : ℕ → Lent → List ℕ → Conditions
 rankConditions n s p = sized n s (pathConditions n s p)
 
-abbrev pub rankNumber : ℕ → List ℕ → List ℕ → ℕ
-rankNumber n s p = firstTrue (sizedTests n (length s) (pathTests n s p))
+abbrev pub rankNumber : ℕ → Lent → List ℕ → ℕ
+rankNumber n s p = firstTrue (sizedTests n s (pathTests n s p))
 
 -- the sum of the counts to the end of the path that are passed over on it, over a sheet as it stands
 abbrev pub pathNumber : ℕ → List ℕ → List ℕ → ℕ
 pathNumber n s p = passedOver (edgeAt s) (countAt n s) (end p) p
 
-abbrev pub rankAnswer : ℕ → List ℕ → List ℕ → Answer
-rankAnswer n s p = answered (rankNumber n s p) (pathNumber n s p % 2 ^ 64)
+abbrev pub rankAnswer : ℕ → Lent → List ℕ → Answer
+rankAnswer n s p = answered (rankNumber n s p) (pathNumber n (s .words) p % 2 ^ 64)
