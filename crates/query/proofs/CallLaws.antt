@@ -1,22 +1,21 @@
 -- The product, and the ways out of `unrank` and `rank`: m and k are what their checks gave. Assumes nothing.
 use mathlib.Core.Path.{_≡_, refl, sym, ap, ap₂, _∙_}
-use mathlib.Core.Bool.{Bool, true, false}
-use mathlib.Core.List.{List, [], _∷_}
+use mathlib.Core.Logic.{inl, inr}
+use mathlib.Core.List.{List}
 use Prim.Native.Nat.{ℕ, _*_, _%_, _^_, _≤_}
 use native.Mathlib.Omega.{arith}
-use borrow.Author.Tests.{eq-eqb, ne-eqb}
 use lib.ListN.{length, take}
 use Rattle.text.specs.Text.{written}
 use Rattle.answer.specs.declared.Answer.{Answer}
-use Rattle.answer.specs.Table.{_gives_, Tests, firstTrue}
+use Rattle.answer.specs.Table.{First}
 use Rattle.answer.specs.Answers.{answer}
-use Rattle.sheet_theory.specs.Conditions.{vertexTests, sizedTests}
-use Rattle.sheet_theory.specs.Internal.{shapeNumber}
-use Rattle.answer.proofs.TableLaws.{first-here, first-next, first-none, first-stops, first-passes}
-use Rattle.sheet_theory.proofs.ShapeLaws.{sized-stops, sized-passes}
-use Rattle.answer.proofs.AnswerLaws.{answered-refused, answered-accepted, decided-refused, decided-accepted}
-use Rattle.query_theory.specs.Unrank.{walk, numberTests, walkTests, unrankNumber, unrankAnswer, unrankAfter}
-use Rattle.query_theory.specs.Rank.{someNoVertex, broken, pathTests, rankNumber, pathNumber, rankAnswer}
+use Rattle.sheet_theory.specs.Lent.{Lent}
+use Rattle.answer.proofs.TableLaws.{first-only, first-more}
+use Rattle.answer.proofs.ByNumber.{first-after}
+use Rattle.answer.proofs.AnswerLaws.{answered-refused, answered-accepted, refused-as, accepted-as}
+use Rattle.query_theory.specs.Unrank.{walk, walkConditions, unrankConditions, unrankAnswer, unrankAfter}
+use Rattle.query_theory.specs.Rank.{rankConditions, rankNumber, pathNumber, rankAnswer}
+use Rattle.query_theory.proofs.Refusals.{unrank-first, rank-first}
 use Rattle.query.specs.Internal.{beforeWalk, WalkKept}
 use Rattle.query.proofs.AsideLaws.{aside-taken}
 
@@ -27,66 +26,37 @@ product-cong a b c d r p q e = e ∙ ap₂ (λ (x y : ℕ). x * y % 2 ^ 64) p q
 
 -- ---- unrank: c vertices of the walk are kept in l
 
-module _ (n : ℕ) (s : List ℕ) (i j k : ℕ) (p : List ℕ) (m : ℕ) (em : m ≡ beforeWalk n s i j k (length p)) where
-  -- the tests before the walk
-  abbrev early : Tests
-  early = sizedTests n (length s) (vertexTests n i j (numberTests n s i j k (length p) []))
+module _ (n : ℕ) (s : Lent) (i j k : ℕ) (p : List ℕ) (m : ℕ) (f : First (beforeWalk n s i j k (length p)) m) (r : Answer) where
+  -- what is refused, by the number x
+  refused : (x : ℕ) → First (unrankConditions n s i j k (length p)) x → (x ≡ 0 → ⊥) → r ≡ answer x 0 0
+      → (r ≡ unrankAnswer n s i j k (length p)) × (p ≡ unrankAfter n s i j k p)
+  refused x g = refused-as (unrankConditions n s i j k (length p)) x _ g (unrank-first n s i j k (length p)) (written (walk n (s .words) i j k) p) p _ r
 
-  module _ (d : m ≡ 0 → ⊥) where
-    stops : m ≡ unrankNumber n s i j k (length p)
-    stops = em ∙ sym (first-stops early (walkTests n s i j k) (λ z. d (em ∙ z)))
+  pub unrank-stops : (m ≡ 0 → ⊥) → r ≡ answer m 0 0 → (r ≡ unrankAnswer n s i j k (length p)) × (p ≡ unrankAfter n s i j k p)
+  unrank-stops d = refused m (first-more (beforeWalk n s i j k (length p)) (walkConditions n s i j k) m f d) d
 
-    pub unrank-stops : (r : Answer) → r ≡ answer m 0 0 → r ≡ unrankAnswer n s i j k (length p)
-    unrank-stops r er = answered-refused m _ stops _ r d er
+  module _ (z : m ≡ 0) (c : ℕ) (l : List ℕ) (kept : WalkKept n (s .words) i j k c l) where
+    past : (x : ℕ) → First (walkConditions n s i j k) x → First (unrankConditions n s i j k (length p)) x
+    past x = first-after (beforeWalk n s i j k (length p)) (walkConditions n s i j k) m x refl f z
 
-    pub unrank-stops-kept : p ≡ unrankAfter n s i j k p
-    unrank-stops-kept = decided-refused m _ stops _ p d
+    pub unrank-astray : c ≡ 0 → r ≡ answer 9 0 0 → (r ≡ unrankAnswer n s i j k (length p)) × (p ≡ unrankAfter n s i j k p)
+    unrank-astray e = refused 9 (past 9 (inl (sym (kept .kept) ∙ ap (λ (x : ℕ). take x l) e, refl))) (λ q. omega (arith, q))
 
-  module _ (z : m ≡ 0) (c : ℕ) (l : List ℕ) (kept : WalkKept n s i j k c l) where
-    passes : firstTrue (walkTests n s i j k) ≡ unrankNumber n s i j k (length p)
-    passes = sym (first-passes early (walkTests n s i j k) (omega arith, (omega arith, (omega arith, (omega arith, (omega arith, tt))))) (sym em ∙ z))
+    pub unrank-arrived : (c ≡ 0 → ⊥) → n ≤ 64 → (q : List ℕ) → r ≡ answer 0 0 c → q ≡ written (take c l) p
+        → (r ≡ unrankAnswer n s i j k (length p)) × (q ≡ unrankAfter n s i j k p)
+    unrank-arrived d high q er eq =
+        let many : length (walk n (s .words) i j k) ≡ c = ap length (sym (kept .kept)) ∙ aside-taken kept high in
+        accepted-as (unrankConditions n s i j k (length p)) 0 _ (past 0 (inr ((λ e. d (sym many ∙ ap length e)), refl))) (unrank-first n s i j k (length p)) _ p q _ r refl
+        (er ∙ ap (answer 0 0) (sym many)) (eq ∙ ap (λ (x : List ℕ). written x p) (kept .kept))
 
-    module _ (e : c ≡ 0) where
-      astray : 9 ≡ unrankNumber n s i j k (length p)
-      astray = sym (first-here _ [] (eq-eqb _ 0 (ap length (sym (kept .kept) ∙ ap (λ (x : ℕ). take x l) e)))) ∙ passes
+-- ---- rank
 
-      pub unrank-astray : (r : Answer) → r ≡ answer 9 0 0 → r ≡ unrankAnswer n s i j k (length p)
-      unrank-astray r er = answered-refused 9 _ astray _ r (λ q. omega (arith, q)) er
+module _ (n : ℕ) (s : Lent) (p : List ℕ) (k : ℕ) (f : First (rankConditions n s p) k) (r : Answer) where
+  given : k ≡ rankNumber n s p
+  given = first-only (rankConditions n s p) k _ f (rank-first n s p)
 
-      pub unrank-astray-kept : p ≡ unrankAfter n s i j k p
-      unrank-astray-kept = decided-refused 9 _ astray _ p (λ q. omega (arith, q))
+  pub rank-stops : (k ≡ 0 → ⊥) → r ≡ answer k 0 0 → r ≡ rankAnswer n s p
+  rank-stops d er = answered-refused k _ given _ r d er
 
-    module _ (d : c ≡ 0 → ⊥) (high : n ≤ 64) where
-      vertices : length (walk n s i j k) ≡ c
-      vertices = ap length (sym (kept .kept)) ∙ aside-taken kept high
-
-      arrives : 0 ≡ unrankNumber n s i j k (length p)
-      arrives = sym first-none ∙ sym (first-next _ [] (ne-eqb _ 0 (λ e. d (sym vertices ∙ e)))) ∙ passes
-
-      pub unrank-arrived : (r : Answer) → r ≡ answer 0 0 c → r ≡ unrankAnswer n s i j k (length p)
-      unrank-arrived r er = answered-accepted 0 _ arrives _ r refl (er ∙ ap (λ (x : ℕ). answer 0 0 x) (sym vertices))
-
-      pub unrank-arrived-bytes : (q : List ℕ) → q ≡ written (take c l) p → q ≡ unrankAfter n s i j k p
-      unrank-arrived-bytes q eq = decided-accepted 0 _ arrives _ p q refl (eq ∙ ap (λ (x : List ℕ). written x p) (kept .kept))
-
--- ---- rank: t is whether some byte is no vertex, b whether the path is broken
-
-module _ (n : ℕ) (s p : List ℕ) (k : ℕ) (ek : k ≡ shapeNumber n (length s)) where
-  pub rank-shape : (k ≡ 0 → ⊥) → (r : Answer) → r ≡ answer k 0 0 → r ≡ rankAnswer n s p
-  rank-shape d r er = answered-refused k _ (sym (sized-stops n (length s) k ek (pathTests n s p) d)) _ r d er
-
-  module _ (z : k ≡ 0) (t : Bool) (et : t ≡ someNoVertex n p) where
-    pub rank-no-vertex : t ≡ true → (r : Answer) → r ≡ answer 3 0 0 → r ≡ rankAnswer n s p
-    rank-no-vertex h r er =
-        answered-refused 3 _ (sym (sized-passes n (length s) k ek (pathTests n s p) z ∙ first-here _ _ (sym et ∙ h))) _ r (λ q. omega (arith, q)) er
-
-    module _ (f : t ≡ false) (b : Bool) (eb : b ≡ broken n s p) where
-      past : firstTrue (broken n s p gives 12 ∷ []) ≡ rankNumber n s p
-      past = sym (sized-passes n (length s) k ek (pathTests n s p) z ∙ first-next _ _ (sym et ∙ f))
-
-      pub rank-broken : b ≡ true → (r : Answer) → r ≡ answer 12 0 0 → r ≡ rankAnswer n s p
-      rank-broken h r er = answered-refused 12 _ (sym (first-here _ [] (sym eb ∙ h)) ∙ past) _ r (λ q. omega (arith, q)) er
-
-      pub rank-accepted : b ≡ false → (x : ℕ) → x ≡ pathNumber n s p % 2 ^ 64 → (r : Answer) → r ≡ answer 0 0 x → r ≡ rankAnswer n s p
-      rank-accepted h x ex r er =
-          answered-accepted 0 _ (sym first-none ∙ sym (first-next _ [] (sym eb ∙ h)) ∙ past) _ r refl (er ∙ ap (λ (y : ℕ). answer 0 0 y) ex)
+  pub rank-accepted : (x : ℕ) → k ≡ 0 → x ≡ pathNumber n (s .words) p % 2 ^ 64 → r ≡ answer 0 0 x → r ≡ rankAnswer n s p
+  rank-accepted x z ex er = answered-accepted k _ given _ r z (er ∙ ap (answer 0 0) ex)

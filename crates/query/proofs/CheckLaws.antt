@@ -1,132 +1,138 @@
--- The laws of the checks of the questions: the ways out of `without_number` and `walk_number`, where k is what the check of the shape,
--- or for `walk_number` of the shape and the ends, gave. Assumes nothing.
-use mathlib.Core.Path.{_≡_, refl, sym, _∙_}
+-- The laws of the checks of the questions: the ways out of `without_number`, `walk_number` and `rank_number`, where k is what the check of
+-- the shape, or for `walk_number` of the shape and the ends, gave; and what is known where they find nothing. Assumes nothing.
+use mathlib.Core.Path.{_≡_, refl}
 use mathlib.Core.Logic.{_⊎_, inl, inr}
-use mathlib.Core.Bool.{Bool, true, false, _||_}
+use mathlib.Core.Bool.{Bool, true, false}
 use mathlib.Core.List.{List, []}
 use Prim.Native.Nat.{ℕ, _≤_, _<_}
-use native.Mathlib.Decide.{ℕ-discrete, decLt}
+use native.Mathlib.Nat.{lt-of-not-le}
+use native.Mathlib.Decide.{decLt}
 use native.Mathlib.Omega.{arith}
-use borrow.Author.Tests.{lt-ltb, le-ltb, le-leb, lt-leb, eq-eqb, ne-eqb}
-use lib.Dec.{leb}
 use lib.ListN.{length}
 use Rattle.word.specs.Bit.{hasBit}
 use Rattle.word.proofs.BitLaws.{has-true, has-false}
-use Rattle.answer.specs.Table.{Tests, firstTrue}
-use Rattle.sheet_theory.specs.Layout.{Shape, rowAt, countAt, edgeAt}
-use Rattle.sheet_theory.specs.Conditions.{vertexTests, sizedTests}
-use Rattle.sheet_theory.specs.Internal.{shapeNumber, verticesNumber}
-use Rattle.answer.proofs.TableLaws.{reflects-false, reflects-or, reflects-le, first-here, first-next, first-none, first-stops, first-passes}
-use Rattle.sheet_theory.proofs.ShapeLaws.{sized-stops, sized-passes, vertices-ready}
-use Rattle.query_theory.specs.ReachesWithout.{edgeTests, reachesWithoutNumber}
-use Rattle.query_theory.specs.Unrank.{numberTests}
-use Rattle.query.specs.Internal.{Greater, beforeWalk}
-
--- ---- two vertices named, and further tests
-
-module _ (n len i j k : ℕ) (e : k ≡ verticesNumber n len i j) where
-  -- a number that is not 0 is the call's, whatever the further tests are, and past it they give the call's
-  named-stops : (ts : Tests) → (k ≡ 0 → ⊥) → k ≡ firstTrue (sizedTests n len (vertexTests n i j ts))
-  named-stops ts d = e ∙ sym (first-stops (sizedTests n len (vertexTests n i j [])) ts (λ z. d (e ∙ z)))
-
-  named-passes : (ts : Tests) → k ≡ 0 → firstTrue ts ≡ firstTrue (sizedTests n len (vertexTests n i j ts))
-  named-passes ts z = sym (first-passes (sizedTests n len (vertexTests n i j [])) ts (omega arith, (omega arith, (omega arith, tt))) (sym e ∙ z))
-
--- where no test is true, neither is that of the two
-named-zero : (n len i j : ℕ) (ts : Tests) → firstTrue (sizedTests n len (vertexTests n i j ts)) ≡ 0 → verticesNumber n len i j ≡ 0
-named-zero n len i j ts z =
-    elim (ℕ-discrete (verticesNumber n len i j) 0) [ yes q ↦ q | no d ↦ absurd (d (named-stops n len i j _ refl ts d ∙ z)) ]
+use Rattle.answer.specs.Table.{Conditions, First, Reflects}
+use Rattle.sheet_theory.specs.Layout.{rowAt, countAt}
+use Rattle.sheet_theory.specs.Lent.{Lent, Lends}
+use Rattle.sheet_theory.specs.Conditions.{NoVertex, vertexConditions, sized}
+use Rattle.answer.proofs.TableLaws.{reflects-false, first-past, first-more}
+use Rattle.answer.proofs.ByNumber.{first-not, first-after}
+use Rattle.sheet_theory.proofs.ShapeLaws.{accepted-shape, shape-passed, shape-rest, shape-refused, shape-of, vertex-below}
+use Rattle.query_theory.specs.ReachesWithout.{edgeConditions, reachesWithoutConditions}
+use Rattle.query_theory.specs.Unrank.{numberConditions}
+use Rattle.query_theory.specs.Rank.{SomeNoVertex, Broken, pathConditions, rankConditions}
+use Rattle.query.specs.Internal.{Vertices, Greater, beforeWalk}
+use Rattle.query.proofs.PathLaws.{vertices-of}
 
 -- ---- two vertices by the greater of them
 
-too-far : (n i j g : ℕ) → Greater i j g → n ≤ g → (leb n i || leb n j) ≡ true
-too-far n i j g greater h =
-    reflects-or (reflects-le n i) (reflects-le n j) .shows
-    (elim (decLt i n) [
-      | no q ↦ inl (omega arith)
-      | yes q ↦ inr (elim (decLt j n) [ yes p ↦ absurd (omega (arith, greater .least n q p)) | no p ↦ omega arith ])
-    ])
+module _ (n i j g : ℕ) (greater : Greater i j g) where
+  too-far : n ≤ g → NoVertex n i ⊎ NoVertex n j
+  too-far h =
+      elim (decLt i n) [
+        | no q ↦ inl (omega arith)
+        | yes q ↦ inr (elim (decLt j n) [ yes p ↦ absurd (omega (arith, greater .least n q p)) | no p ↦ omega arith ])
+      ]
 
-near : (n i j g : ℕ) → Greater i j g → g < n → (leb n i || leb n j) ≡ false
-near n i j g greater h =
-    reflects-false (reflects-or (reflects-le n i) (reflects-le n j)) .1
-    (λ c. elim c [ inl l ↦ omega (arith, greater .first) | inr l ↦ omega (arith, greater .second) ])
+  near : g < n → ¬ (NoVertex n i ⊎ NoVertex n j)
+  near h c = elim c [ inl l ↦ omega (arith, greater .first) | inr l ↦ omega (arith, greater .second) ]
 
 -- ---- without_number: m is the greatest of the four vertices, t is whether the edge is there
 
-module _ (n : ℕ) (s : List ℕ) (i j u v k : ℕ) (ek : k ≡ shapeNumber n (length s)) where
-  pub without-shape : (k ≡ 0 → ⊥) → k ≡ reachesWithoutNumber n s i j u v
-  without-shape d = sym (sized-stops n (length s) k ek (vertexTests n i j (vertexTests n u v (edgeTests s u v))) d)
+module _ (n : ℕ) (s : Lent) (i j u v k : ℕ) (f : First (sized n s []) k) where
+  -- the conditions past the shape
+  abbrev further : Conditions
+  further = vertexConditions n i j (vertexConditions n u v (edgeConditions n s u v))
+
+  pub without-shape : (k ≡ 0 → ⊥) → First (reachesWithoutConditions n s i j u v) k
+  without-shape d = shape-refused n s k f d further
 
   module _ (z : k ≡ 0) (a b m : ℕ) (ends : Greater i j a) (edge : Greater u v b) (all : Greater a b m) where
-    past-shape : firstTrue (vertexTests n i j (vertexTests n u v (edgeTests s u v))) ≡ reachesWithoutNumber n s i j u v
-    past-shape = sym (sized-passes n (length s) k ek (vertexTests n i j (vertexTests n u v (edgeTests s u v))) z)
-
-    pub without-vertex : n ≤ m → 3 ≡ reachesWithoutNumber n s i j u v
+    pub without-vertex : n ≤ m → First (reachesWithoutConditions n s i j u v) 3
     without-vertex h =
-        elim (decLt a n) [
-          | no l ↦ sym (first-here _ _ (too-far n i j a ends (omega arith))) ∙ past-shape
+        shape-passed n s (shape-of n s k f z) further 3
+        (elim (decLt a n) [
+          | no l ↦ inl (too-far n i j a ends (omega arith), refl)
           | yes l ↦
               let far : n ≤ b = elim (decLt b n) [ yes q ↦ absurd (omega (arith, all .least n l q)) | no q ↦ omega arith ] in
-              sym (first-next _ _ (near n i j a ends l) ∙ first-here _ _ (too-far n u v b edge far)) ∙ past-shape
-        ]
+              inr (near n i j a ends l, inl (too-far n u v b edge far, refl))
+        ])
 
-    module _ (h : m < n) (t : Bool) (et : t ≡ hasBit (rowAt s u) v) where
-      past-vertices : firstTrue (edgeTests s u v) ≡ reachesWithoutNumber n s i j u v
-      past-vertices =
-          sym (first-next _ _ (near n i j a ends (omega (arith, all .first))) ∙ first-next _ _ (near n u v b edge (omega (arith, all .second)))) ∙ past-shape
+    module _ (h : m < n) (t : Bool) (et : t ≡ hasBit (rowAt (s .words) u) v) where
+      past-vertices : (x : ℕ) → First (edgeConditions n s u v) x → First (reachesWithoutConditions n s i j u v) x
+      past-vertices x g =
+          shape-passed n s (shape-of n s k f z) further x
+          (inr (near n i j a ends (omega (arith, all .first)), inr (near n u v b edge (omega (arith, all .second)), g)))
 
-      pub without-absent : t ≡ false → 7 ≡ reachesWithoutNumber n s i j u v
-      without-absent f = sym (first-here _ [] (eq-eqb (edgeAt s u v) 0 (has-false (rowAt s u) v t et f))) ∙ past-vertices
+      pub without-absent : t ≡ false → First (reachesWithoutConditions n s i j u v) 7
+      without-absent e = past-vertices 7 (inl (has-false (rowAt (s .words) u) v t et e, refl))
 
-      pub without-there : t ≡ true → 0 ≡ reachesWithoutNumber n s i j u v
-      without-there g =
-          sym first-none ∙ sym (first-next _ [] (ne-eqb (edgeAt s u v) 0 (λ e. omega (arith, e, has-true (rowAt s u) v t et g)))) ∙ past-vertices
+      pub without-there : t ≡ true → First (reachesWithoutConditions n s i j u v) 0
+      without-there e = past-vertices 0 (inr ((λ q. omega (arith, q, has-true (rowAt (s .words) u) v t et e)), refl))
 
 -- 0 says that the sheet has the shape and all four vertices
-pub without-ready : (n : ℕ) (s : List ℕ) (i j u v k : ℕ) → k ≡ reachesWithoutNumber n s i j u v → k ≡ 0
-    → Shape n s × (i < n) × (j < n) × (u < n) × (v < n)
-without-ready n s i j u v k ek z =
-    let ends : verticesNumber n (length s) i j ≡ 0 = named-zero n (length s) i j (vertexTests n u v (edgeTests s u v)) (sym ek ∙ z) in
-    let p = vertices-ready n s i j _ refl ends in
-    let rest : firstTrue (vertexTests n u v (edgeTests s u v)) ≡ 0
-    = named-passes n (length s) i j _ refl (vertexTests n u v (edgeTests s u v)) ends ∙ sym ek ∙ z in
-    let within : (x : ℕ) → (n ≤ x → (n ≤ u) ⊎ (n ≤ v)) → x < n
-    = λ x h. elim (decLt x n) [
-      | yes l ↦ l
-      | no l ↦ absurd (omega (arith, sym rest ∙ first-here _ (edgeTests s u v) (reflects-or (reflects-le n u) (reflects-le n v) .shows (h (omega arith)))))
-    ] in
-    (p .0, p .1, p .2, within u inl, within v inr)
+pub without-ready : (n : ℕ) (s : Lent) (i j u v k : ℕ) → First (reachesWithoutConditions n s i j u v) k → k ≡ 0
+    → Lends n s × (i < n) × (j < n) × (u < n) × (v < n)
+without-ready n s i j u v k f z =
+    let cs : Conditions = vertexConditions n u v (edgeConditions n s u v) in
+    let g : First (reachesWithoutConditions n s i j u v) 0 = rw z at f in
+    let shape = accepted-shape n s (vertexConditions n i j cs) g in
+    let past = shape-rest n s shape (vertexConditions n i j cs) 0 g in
+    let ends = vertex-below n i j cs past in
+    let edge = vertex-below n u v (edgeConditions n s u v) (first-past past .1) in
+    (shape, ends .0, ends .1, edge .0, edge .1)
 
 -- ---- walk_number: x is the count
 
-module _ (n : ℕ) (s : List ℕ) (i j k len m : ℕ) (em : m ≡ verticesNumber n (length s) i j) where
-  abbrev further : Tests
-  further = numberTests n s i j k len []
-
-  pub walk-ends : (m ≡ 0 → ⊥) → m ≡ beforeWalk n s i j k len
-  walk-ends = named-stops n (length s) i j m em further
+module _ (n : ℕ) (s : Lent) (i j k len m : ℕ) (f : First (sized n s (vertexConditions n i j [])) m) where
+  pub walk-ends : (m ≡ 0 → ⊥) → First (beforeWalk n s i j k len) m
+  walk-ends = first-more (sized n s (vertexConditions n i j [])) (numberConditions n s i j k len []) m f
 
   module _ (z : m ≡ 0) where
-    pub walk-buffer : len < n → 10 ≡ beforeWalk n s i j k len
-    walk-buffer h = sym (first-here _ _ (lt-ltb len n h)) ∙ named-passes n (length s) i j m em further z
+    past-ends : (y : ℕ) → First (numberConditions n s i j k len []) y → First (beforeWalk n s i j k len) y
+    past-ends y = first-after (sized n s (vertexConditions n i j [])) (numberConditions n s i j k len []) m y refl f z
 
-    module _ (h : n ≤ len) (x : ℕ) (ex : x ≡ countAt n s i j) where
-      pub walk-good : k < x → 0 ≡ beforeWalk n s i j k len
-      walk-good l =
-          sym first-none
-          ∙ sym (first-next _ _ (lt-leb (countAt n s i j) k (rw ex at l)))
-          ∙ sym (first-next _ _ (le-ltb len n h))
-          ∙ named-passes n (length s) i j m em further z
+    pub walk-buffer : len < n → First (beforeWalk n s i j k len) 10
+    walk-buffer h = past-ends 10 (inl (h, refl))
 
-      pub walk-beyond : x ≤ k → 11 ≡ beforeWalk n s i j k len
-      walk-beyond l =
-          sym (first-here _ _ (le-leb (countAt n s i j) k (rw ex at l))) ∙ sym (first-next _ _ (le-ltb len n h)) ∙ named-passes n (length s) i j m em further z
+    module _ (h : n ≤ len) (x : ℕ) (ex : x ≡ countAt n (s .words) i j) where
+      pub walk-good : k < x → First (beforeWalk n s i j k len) 0
+      walk-good l = past-ends 0 (inr ((λ q. omega arith), inr ((λ q. omega arith), refl)))
+
+      pub walk-beyond : x ≤ k → First (beforeWalk n s i j k len) 11
+      walk-beyond l = past-ends 11 (inr ((λ q. omega arith), inl (omega arith, refl)))
 
 -- 0 says that the sheet has the shape and both vertices, and that the buffer is long enough
-pub walk-ready : (n : ℕ) (s : List ℕ) (i j k len m : ℕ) → m ≡ beforeWalk n s i j k len → m ≡ 0 → Shape n s × (i < n) × (j < n) × (n ≤ len)
-walk-ready n s i j k len m em z =
-    let ends : verticesNumber n (length s) i j ≡ 0 = named-zero n (length s) i j (numberTests n s i j k len []) (sym em ∙ z) in
-    let r = vertices-ready n s i j _ refl ends in
-    let rest : firstTrue (numberTests n s i j k len []) ≡ 0 = named-passes n (length s) i j _ refl (numberTests n s i j k len []) ends ∙ sym em ∙ z in
-    (r .0, r .1, r .2, elim (decLt len n) [ yes h ↦ absurd (omega (arith, sym (first-here _ _ (lt-ltb len n h)) ∙ rest)) | no h ↦ omega arith ])
+pub walk-ready : (n : ℕ) (s : Lent) (i j k len m : ℕ) → First (beforeWalk n s i j k len) m → m ≡ 0 → Lends n s × (i < n) × (j < n) × (n ≤ len)
+walk-ready n s i j k len m f z =
+    let cs : Conditions = numberConditions n s i j k len [] in
+    let g : First (beforeWalk n s i j k len) 0 = rw z at f in
+    let shape = accepted-shape n s (vertexConditions n i j cs) g in
+    let ends = vertex-below n i j cs (shape-rest n s shape (vertexConditions n i j cs) 0 g) in
+    (shape, ends .0, ends .1, elim (decLt len n) [ yes h ↦ absurd (first-not (beforeWalk n s i j k len) 0 g 10 refl h) | no h ↦ omega arith ])
+
+-- ---- rank_number: t is whether some byte is no vertex, b whether the path is broken
+
+module _ (n : ℕ) (s : Lent) (p : List ℕ) (k : ℕ) (f : First (sized n s []) k) where
+  pub rank-shape : (k ≡ 0 → ⊥) → First (rankConditions n s p) k
+  rank-shape d = shape-refused n s k f d (pathConditions n s p)
+
+  module _ (z : k ≡ 0) (t : Bool) (rt : Reflects t (SomeNoVertex n p)) where
+    pub rank-no-vertex : t ≡ true → First (rankConditions n s p) 3
+    rank-no-vertex e = shape-passed n s (shape-of n s k f z) (pathConditions n s p) 3 (inl (rt .holds e, refl))
+
+    module _ (e : t ≡ false) (b : Bool) (rb : Reflects b (Broken n (s .words) p)) where
+      pub rank-broken : b ≡ true → First (rankConditions n s p) 12
+      rank-broken g = shape-passed n s (shape-of n s k f z) (pathConditions n s p) 12 (inr (reflects-false rt .0 e, inl (rb .holds g, refl)))
+
+      pub rank-good : b ≡ false → First (rankConditions n s p) 0
+      rank-good g = shape-passed n s (shape-of n s k f z) (pathConditions n s p) 0 (inr (reflects-false rt .0 e, inr (reflects-false rb .0 g, refl)))
+
+-- 0 says that the sheet has the shape, and that the path has a vertex and no entry that is none
+pub rank-ready : (n : ℕ) (s : Lent) (p : List ℕ) (k : ℕ) → First (rankConditions n s p) k → k ≡ 0 → Lends n s × Vertices n p × (0 < length p)
+rank-ready n s p k f z =
+    let g : First (rankConditions n s p) 0 = rw z at f in (
+      accepted-shape n s (pathConditions n s p) g,
+      vertices-of n p (first-not (rankConditions n s p) 0 g 3 refl),
+      lt-of-not-le (λ l. first-not (rankConditions n s p) 0 g 12 refl (inl (omega arith))),
+    )

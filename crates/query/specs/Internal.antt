@@ -4,12 +4,13 @@ use mathlib.Core.Logic.{_⊎_}
 use mathlib.Core.List.{List, []}
 use Prim.Native.Nat.{ℕ, _≤_, _<_}
 use lib.ListN.{length, getD, take}
-use Rattle.answer.specs.Table.{firstTrue}
+use Rattle.answer.specs.Table.{Conditions}
 use Rattle.sheet_theory.specs.Layout.{mostVertices, countAt, edgeAt}
-use Rattle.sheet_theory.specs.Conditions.{vertexTests, sizedTests}
+use Rattle.sheet_theory.specs.Lent.{Lent}
+use Rattle.sheet_theory.specs.Conditions.{vertexConditions, sized}
 use Rattle.query.specs.declared.walk.Next.{Next}
 use Rattle.query_theory.specs.Walk.{goes, passes, tried}
-use Rattle.query_theory.specs.Unrank.{numberTests, walk}
+use Rattle.query_theory.specs.Unrank.{walk, numberConditions}
 
 -- r is the greater of i and j
 pub record Greater (i j r : ℕ) : Type 0 where
@@ -17,9 +18,9 @@ pub record Greater (i j r : ℕ) : Type 0 where
   pub second : j ≤ r
   pub least : (k : ℕ) → i < k → j < k → r < k
 
--- the number that is given before a walk: 1, 2, 3, 10, 11 or 0
-abbrev pub beforeWalk : ℕ → List ℕ → ℕ → ℕ → ℕ → ℕ → ℕ
-beforeWalk n s i j k len = firstTrue (sizedTests n (length s) (vertexTests n i j (numberTests n s i j k len [])))
+-- what is looked for before a walk: 1, 2, 3, 10, 11
+abbrev pub beforeWalk : ℕ → Lent → ℕ → ℕ → ℕ → ℕ → Conditions
+beforeWalk n s i j k len = sized n s (vertexConditions n i j (numberConditions n s i j k len []))
 
 -- r is where the walk to j goes from i by the number k, with what is left of k; n, where no edge fits
 abbrev pub Stepped : ℕ → List ℕ → ℕ → ℕ → ℕ → Next → Type 0

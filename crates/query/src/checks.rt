@@ -2,9 +2,11 @@
 ghost use mathlib.Core.Path.{_≡_};
 ghost use Prim.Native.Nat.{_<_};
 ghost use Rattle.word.specs.Bit.{hasBit};
+ghost use Rattle.answer.specs.Table.{First, Reflects};
 ghost use Rattle.sheet_theory.specs.Layout.{Shape, rowAt};
-ghost use Rattle.query_theory.specs.ReachesWithout.{reachesWithoutNumber};
-ghost use Rattle.query_theory.specs.Rank.{someNoVertex, broken};
+ghost use Rattle.sheet_theory.specs.Lent.{lent};
+ghost use Rattle.query_theory.specs.ReachesWithout.{reachesWithoutConditions};
+ghost use Rattle.query_theory.specs.Rank.{SomeNoVertex, Broken, rankConditions};
 ghost use Rattle.query.specs.Internal.{Vertices, Greater, beforeWalk};
 use sheet::Refusal;
 use sheet::checks;
@@ -37,9 +39,9 @@ pub(crate) fn without_number(
     edge_from: usize,
     edge_to: usize,
 ) -> u64
-    ensures { λ r. ⌜ r ≡ reachesWithoutNumber n (now (sheet .entry)) from to «edge_from» «edge_to» ⌝ }
+    ensures { λ r. ⌜ First (reachesWithoutConditions n (lent (now (sheet .entry))) from to «edge_from» «edge_to») r ⌝ }
 {
-    let number = checks::shape_number(n, sheet.len());
+    let number = checks::shape_number(n, sheet);
     if number != 0 {
         return number;
     }
@@ -61,9 +63,9 @@ pub(crate) fn walk_number(
     k: u64,
     bytes: usize,
 ) -> u64
-    ensures { λ r. ⌜ r ≡ beforeWalk n (now (sheet .entry)) from to k bytes ⌝ }
+    ensures { λ r. ⌜ First (beforeWalk n (lent (now (sheet .entry))) from to k bytes) r ⌝ }
 {
-    let number = checks::vertices_number(n, sheet.len(), from, to);
+    let number = checks::vertices_number(n, sheet, from, to);
     if number != 0 {
         return number;
     }
@@ -77,8 +79,8 @@ pub(crate) fn walk_number(
 }
 
 // Whether some byte is n or more.
-pub(crate) fn has_no_vertex(n: usize, path: &[u8]) -> bool
-    ensures { λ r. ⌜ r ≡ someNoVertex n (now (path .entry)) ⌝ }
+fn has_no_vertex(n: usize, path: &[u8]) -> bool
+    ensures { λ r. ⌜ Reflects r (SomeNoVertex n (now (path .entry))) ⌝ }
 {
     let mut t = 0;
     while t < path.len() {
@@ -91,9 +93,9 @@ pub(crate) fn has_no_vertex(n: usize, path: &[u8]) -> bool
 }
 
 // Whether there are no vertices, more than n, or two neighbours without an edge.
-pub(crate) fn is_broken(n: usize, sheet: &[u64], path: &[u8]) -> bool
+fn is_broken(n: usize, sheet: &[u64], path: &[u8]) -> bool
     requires { ⌜ (Shape n (now sheet)) × (Vertices n (now path)) ⌝ }
-    ensures { λ r. ⌜ r ≡ broken n (now (sheet .entry)) (now (path .entry)) ⌝ }
+    ensures { λ r. ⌜ Reflects r (Broken n (now (sheet .entry)) (now (path .entry))) ⌝ }
 {
     if path.len() == 0 {
         return true;
@@ -109,4 +111,21 @@ pub(crate) fn is_broken(n: usize, sheet: &[u64], path: &[u8]) -> bool
         t += 1;
     }
     false
+}
+
+// The number by which a path is refused: 1, 2, 3, 12, or 0.
+pub(crate) fn rank_number(n: usize, sheet: &[u64], path: &[u8]) -> u64
+    ensures { λ r. ⌜ First (rankConditions n (lent (now (sheet .entry))) (now (path .entry))) r ⌝ }
+{
+    let number = checks::shape_number(n, sheet);
+    if number != 0 {
+        return number;
+    }
+    if has_no_vertex(n, path) {
+        return Refusal::VERTEX;
+    }
+    if is_broken(n, sheet, path) {
+        return Refusal::NO_PATH;
+    }
+    0
 }

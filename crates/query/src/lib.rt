@@ -4,6 +4,7 @@ ghost use mathlib.Core.Path.{_≡_};
 ghost use Prim.Native.Nat.{_<_};
 ghost use lib.ListN.{length};
 ghost use Rattle.sheet_theory.specs.Layout.{Shape};
+ghost use Rattle.sheet_theory.specs.Lent.{lent};
 ghost use Rattle.query_theory.specs.ReachesWithout.{product, reachesWithoutAnswer};
 ghost use Rattle.query_theory.specs.Unrank.{unrankAnswer, unrankAfter};
 ghost use Rattle.query_theory.specs.Rank.{rankAnswer};
@@ -37,7 +38,7 @@ pub fn reaches_without(
     edge_from: usize,
     edge_to: usize,
 ) -> Answer
-    ensures answer { λ r. ⌜ r ≡ reachesWithoutAnswer n (now (sheet .entry)) from to «edge_from» «edge_to» ⌝ }
+    ensures answer { λ r. ⌜ r ≡ reachesWithoutAnswer n (lent (now (sheet .entry))) from to «edge_from» «edge_to» ⌝ }
 {
     let number = checks::without_number(n, sheet, from, to, edge_from, edge_to);
     if number != 0 {
@@ -53,8 +54,8 @@ pub fn reaches_without(
 // route by number); on a valid sheet, the path that has k paths before it.
 // Refused by 1, 2, 3, 10, 11, 9. The value is the number of vertices written.
 pub fn unrank(n: usize, sheet: &[u64], from: usize, to: usize, k: u64, path: &mut [u8]) -> Answer
-    ensures answer { λ r. ⌜ r ≡ unrankAnswer n (now (sheet .entry)) from to k (length (now (path .entry))) ⌝ }
-    ensures bytes { λ r. ⌜ now (path .exit) ≡ unrankAfter n (now (sheet .entry)) from to k (now (path .entry)) ⌝ }
+    ensures answer { λ r. ⌜ r ≡ unrankAnswer n (lent (now (sheet .entry))) from to k (length (now (path .entry))) ⌝ }
+    ensures bytes { λ r. ⌜ now (path .exit) ≡ unrankAfter n (lent (now (sheet .entry))) from to k (now (path .entry)) ⌝ }
 {
     let number = checks::walk_number(n, sheet, from, to, k, path.len());
     if number != 0 {
@@ -72,17 +73,11 @@ pub fn unrank(n: usize, sheet: &[u64], from: usize, to: usize, k: u64, path: &mu
 // The counts passed over on a path, one byte a vertex, added up (document 01: the number of a route); on a valid sheet, of a path
 // the number of paths before it. Refused by 1, 2, 3, 12; 3 is looked for in every byte. The value is that sum.
 pub fn rank(n: usize, sheet: &[u64], path: &[u8]) -> Answer
-    ensures answer { λ r. ⌜ r ≡ rankAnswer n (now (sheet .entry)) (now (path .entry)) ⌝ }
+    ensures answer { λ r. ⌜ r ≡ rankAnswer n (lent (now (sheet .entry))) (now (path .entry)) ⌝ }
 {
-    let number = sheet::checks::shape_number(n, sheet.len());
+    let number = checks::rank_number(n, sheet, path);
     if number != 0 {
         return Answer::refused(number);
-    }
-    if checks::has_no_vertex(n, path) {
-        return Answer::refused(Refusal::VERTEX);
-    }
-    if checks::is_broken(n, sheet, path) {
-        return Answer::refused(Refusal::NO_PATH);
     }
     Answer::accepted(number::path_number(n, sheet, path))
 }

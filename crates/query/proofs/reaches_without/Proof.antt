@@ -1,13 +1,12 @@
--- `query::reaches_without` meets its contract: each way out is a law of AnswerLaws or WithoutLaws. Assumes nothing.
+-- `query::reaches_without` meets its contract: each way out is a law of WithoutLaws. Assumes nothing.
 use borrow.Author.Needs.{needs}
-use Rattle.answer.proofs.AnswerLaws.{answered-refused}
 use Rattle.query.proofs.CheckLaws.{without-ready}
-use Rattle.query_theory.proofs.WithoutLaws.{without-no, without-yes}
+use Rattle.query_theory.proofs.WithoutLaws.{without-refused, without-no, without-yes}
 use Rattle.query.proofs.reaches_without.Statement.{statement}
 use Rattle.query.proofs.reaches_without.Tie as tie
 
 returns : tie.Need-returns
-returns c = search answered-refused
+returns c = search without-refused
 
 returns-2 : tie.Need-returns-2
 returns-2 c = search without-no
@@ -16,14 +15,11 @@ returns-3 : tie.Need-returns-3
 returns-3 c = search without-yes
 
 product-requires : tie.Need-product-requires
-product-requires c κs =
-    let a = c .before .before .before .args in
-    without-ready (a .n) (a .sheet .now) (a .from) (a .to) (a .edge-from) (a .edge-to) _ (c .before .without-number .ensures) (c .if1 .left)
+product-requires c κs = without-ready _ _ _ _ _ _ _ (c .before .without-number .ensures) (c .if1 .left)
 
 count-at-requires : tie.Need-count-at-requires
 count-at-requires c κs =
-    let a = c .before .before .before .before .args in
-    let r = without-ready (a .n) (a .sheet .now) (a .from) (a .to) (a .edge-from) (a .edge-to) _ (c .before .before .without-number .ensures) (c .before .if1 .left) in
+    let r = without-ready _ _ _ _ _ _ _ (c .before .before .without-number .ensures) (c .before .if1 .left) in
     (r .0, r .1, r .2)
 
 pub reaches-without-spec : {M : Type 1} → statement M

@@ -1,22 +1,22 @@
 -- `query::checks::has_no_vertex` meets its contract: up to the byte reached each byte is a vertex. Assumes nothing.
-use mathlib.Core.Path.{_≡_, refl}
+use mathlib.Core.Logic.{_↔_}
 use Prim.Native.Nat.{_-_, _≤_}
 use native.Mathlib.Omega.{arith}
 use borrow.Author.Needs.{needs}
 use lib.ListN.{length, drop}
-use Rattle.query_theory.specs.Rank.{someNoVertex}
+use Rattle.query_theory.specs.Rank.{SomeNoVertex}
 use Rattle.query.proofs.PathLaws.{vertex-found, vertex-more, vertex-none}
 use Rattle.query.proofs.checks.has_no_vertex.Statement.{statement}
 use Rattle.query.proofs.checks.has_no_vertex.Tie as tie
 
 abbrev Inv-loop : tie.InvT-loop
-Inv-loop n path t₀ t = (t ≤ length path) × (someNoVertex n path ≡ someNoVertex n (drop t path))
+Inv-loop n path t₀ t = (t ≤ length path) × (SomeNoVertex n path ↔ SomeNoVertex n (drop t path))
 
 abbrev μ-loop : tie.MeasureT-loop
 μ-loop n path t₀ t = length path - t
 
 loop-holds : tie.Need-loop-holds Inv-loop μ-loop
-loop-holds c = (omega arith, refl)
+loop-holds c = (omega arith, (λ q. q, λ q. q))
 
 loop-again : tie.Need-loop-again Inv-loop μ-loop
 loop-again c = (omega arith, search vertex-more)

@@ -18,9 +18,7 @@ returns-4 : tie.Need-returns-4
 returns-4 c = search walk-good
 
 count-at-requires : tie.Need-count-at-requires
-count-at-requires c κs =
-    let a = c .before .before .before .before .args in
-    vertices-ready (a .n) (a .sheet .now) (a .from) (a .to) _ (c .before .before .vertices-number .ensures) (c .before .if1 .left)
+count-at-requires c κs = vertices-ready _ _ _ _ _ (c .before .before .vertices-number .ensures) (c .before .if1 .left)
 
 pub walk-number-spec : {M : Type 1} → statement M
 walk-number-spec = tie.close (tie.spec (λ c κs. search needs) returns returns-2 count-at-requires returns-3 returns-4)

@@ -22,10 +22,9 @@ returns-4 c = search (without-there, not-false)
 has-edge-requires : tie.Need-has-edge-requires
 has-edge-requires c κs =
     let shape = c .before .before .before .before in
-    let a = shape .before .before .before .args in
     let edge = c .before .before .greater2 .ensures in
     let all = c .before .greater3 .ensures in (
-      shape-of (a .n) (a .sheet .now) _ (shape .before .shape-number .ensures) (shape .if1 .left),
+      shape-of _ _ _ (shape .before .shape-number .ensures) (shape .if1 .left),
       omega (arith, edge .first, all .second),
       omega (arith, edge .second, all .second),
     )
