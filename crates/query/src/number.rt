@@ -9,8 +9,8 @@ ghost use Rattle.query.specs.Internal.{Vertices};
 use sheet::layout;
 
 // The counts to vertex j passed over on the way from i to b, added up modulo 2^64.
-fn pass_over(n: usize, sheet: &[u64], j: usize, i: usize, b: usize) -> u64
-    requires { ⌜ (Shape n (now sheet)) × (j < n) × (i < n) × (b < n) ⌝ }
+fn pass_over(n: usize, sheet: &[u64], i: usize, b: usize, j: usize) -> u64
+    requires { ⌜ (Shape n (now sheet)) × (i < n) × (b < n) × (j < n) ⌝ }
     ensures { λ r. ⌜ r ≡ passed (edgeAt (now (sheet .entry))) (countAt n (now (sheet .entry))) j i b % 2 ^ 64 ⌝ }
 {
     let mut sum = 0;
@@ -32,7 +32,7 @@ pub(crate) fn path_number(n: usize, sheet: &[u64], path: &[u8]) -> u64
     let mut sum = 0;
     let mut t = 1;
     while t < path.len() {
-        let next = pass_over(n, sheet, end, path[t - 1] as usize, path[t] as usize);
+        let next = pass_over(n, sheet, path[t - 1] as usize, path[t] as usize, end);
         sum = word::wrapping_add(sum, next);
         t += 1;
     }

@@ -10,10 +10,10 @@ use Rattle.query.proofs.number.pass_over.Statement.{statement}
 use Rattle.query.proofs.number.pass_over.Tie as tie
 
 abbrev Inv-loop : tie.InvT-loop
-Inv-loop n sheet j i b sum₀ rest₀ sum rest = Passing n sheet j i b rest sum
+Inv-loop n sheet i b j sum₀ rest₀ sum rest = Passing n sheet j i b rest sum
 
 abbrev μ-loop : tie.MeasureT-loop
-μ-loop n sheet j i b sum₀ rest₀ sum rest = rest
+μ-loop n sheet i b j sum₀ rest₀ sum rest = rest
 
 loop-holds : tie.Need-loop-holds Inv-loop μ-loop
 loop-holds c = search passing-start
@@ -36,7 +36,7 @@ lowest-bit-requires c κs = omega (arith, eqb-false)
 count-at-requires : tie.Need-count-at-requires Inv-loop μ-loop
 count-at-requires c κs =
     let start = c .before .before .before .before .before .before in
-    (start .pre .0, omega (arith, lowest-lt _ _ _ (c .lowest-bit .ensures) (c .before .before .loop .inv .below)), start .pre .1)
+    (start .pre .0, omega (arith, lowest-lt _ _ _ (c .lowest-bit .ensures) (c .before .before .loop .inv .below)), start .pre .3)
 
 loop-less : tie.Need-loop-less Inv-loop μ-loop
 loop-less c = search lowest-cleared-lt

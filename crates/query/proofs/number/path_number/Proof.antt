@@ -48,7 +48,7 @@ pass-over-requires : tie.Need-pass-over-requires Inv-loop μ-loop
 pass-over-requires c κs =
     let start = c .before .before .before .before .before .before .before in
     let at = c .before .before .before .loop .inv in
-    (start .pre .0, start .pre .1 _ (omega arith), start .pre .1 _ (omega (arith, at .low)), start .pre .1 _ (omega arith))
+    (start .pre .0, start .pre .1 _ (omega (arith, at .low)), start .pre .1 _ (omega arith), start .pre .1 _ (omega arith))
 
 pub path-number-spec : {M : Type 1} → statement M
 path-number-spec =
