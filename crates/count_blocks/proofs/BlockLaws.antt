@@ -29,7 +29,7 @@ use Rattle.sheet.specs.Fill.{over}
 use Rattle.sheet.specs.Internal.{RowBase, rowBy, RowsBy, withCounts}
 use Rattle.sheet_theory.specs.Internal.{successorsSum, RowHolds}
 use Rattle.answer.proofs.TableLaws.{reflects-false, reflects-true, reflects-none, reflects-iff}
-use Rattle.sheet.proofs.RowLaws.{row-long, row-at, block-count, counts-written, counts-in, counts-stay, summed-zeros}
+use Rattle.sheet.proofs.RowLaws.{row-long, row-at, block-count, counts-written, counts-as, counts-in, counts-stay, summed-zeros}
 use Rattle.sheet_theory.proofs.LayoutLaws.{row-within}
 use Rattle.count_rows.specs.Internal.{SameRow}
 use Rattle.order.specs.Internal.{vertexAt, Ordered}
@@ -222,19 +222,18 @@ module _ (n : ℕ) (s l : List ℕ) (h : Ordered n s l) (shape : Shape n s) (c :
       → mask ≡ bitAnd (rowAt t (vertexAt l k)) leading → u ≡ withCounts n t (vertexAt l k) c 16 (countByMask n t (vertexAt l k) mask) → Led leading (vertexAt l k) mask r
       → Filled n s (vertexAt l) c 16 (k + 1) u × Unled n u (vertexAt l) c (k + 1) r
   filling-more t u k leading mask r hk f un em p led = (
-    filled-more n s l h shape c 16 within t u k hk f (counts-written n t i c 16 (successorsSum n t i) u _ _ p refl whole),
+    filled-more n s l h shape c 16 within t u k hk f (counts-as _ _ _ _ _ _ _ p _ whole),
     unled-more n t u (vertexAt l) c k leading mask r un led
-        (counts-in n t i c 16 (countByMask n t i mask) u p (omega (arith, row-within n i (h .order .vertex k hk), f .long, shape .long, within)))
-        (λ a j d low high. counts-stay n t i c 16 (countByMask n t i mask) u p within a j (omega (arith, within)) (λ e. absurd (d e))),
+        (counts-in _ _ _ _ _ _ _ p (omega (arith, row-within n i (h .order .vertex k hk), f .long, shape .long, within)))
+        (λ a j d low high. counts-stay _ _ _ _ _ _ _ p within a j (omega (arith, within)) (λ e. absurd (d e))),
   )
     where
       i : ℕ
       i = vertexAt l k
 
-      whole : (j : ℕ) → j < 16 → countByMask n t i mask (c + j) ≡ successorsSum n t i (c + j)
-      whole j q =
-          ap (λ (x : ℕ). countByMask n t i x (c + j)) em
-          ∙ led-sum n t l c k leading (same-ordered n s t (f .long) (f .rows) l h) hk un (c + j) (omega arith) (omega arith)
+      whole : (j : ℕ) → c ≤ j → j < c + 16 → countByMask n t i mask j ≡ successorsSum n t i j
+      whole j low high =
+          ap (λ (x : ℕ). countByMask n t i x j) em ∙ led-sum n t l c k leading (same-ordered n s t (f .long) (f .rows) l h) hk un j low high
 
 -- ---- the counts of a block compared
 

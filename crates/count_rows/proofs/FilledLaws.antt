@@ -59,18 +59,18 @@ module _ (n : ℕ) (s l : List ℕ) (h : Ordered n s l) (shape : Shape n s) (c w
     now-done j lo hi =
         let i = vertexAt l k in
         let vertex = h .order .vertex k hk in
-        counts-in n t i c w (successorsSum n t i) u r (omega (arith, row-within n i vertex, f .long, shape .long, within)) j lo hi
+        counts-in _ _ _ _ _ _ _ r (omega (arith, row-within n i vertex, f .long, shape .long, within)) j lo hi
         ∙ ap (λ (x : ℕ). (delta i j + sum n (λ b. bit x b * countAt n t b j)) % 2 ^ 64) (f .rows i vertex)
         ∙ congruent-add (2 ^ 64) (delta i j) _ (delta i j) _ refl (congruent-sum (2 ^ 64) n _ _ (term j lo hi))
         ∙ ap (λ (x : ℕ). x % 2 ^ 64) (sym (pathCount-recurrence n (edgeAt s) (ordered-acyclic n s l h) i j vertex (omega arith)))
 
     stays : (i j : ℕ) → j < n → (i ≡ vertexAt l k → (j < c) ⊎ (c + w ≤ j)) → countAt n u i j ≡ countAt n t i j
-    stays = counts-stay n t (vertexAt l k) c w (successorsSum n t (vertexAt l k)) u r within
+    stays = counts-stay _ _ _ _ _ _ _ r within
 
     pub filled-more : Filled n s (vertexAt l) c w (k + 1) u
     filled-more = record {
-      long = counts-long n t (vertexAt l k) c w (successorsSum n t (vertexAt l k)) u r ∙ f .long;
-      rows = λ i hi. counts-out n t (vertexAt l k) c w (successorsSum n t (vertexAt l k)) u r i (inl (omega arith)) ∙ f .rows i hi;
+      long = counts-long _ _ _ _ _ _ _ r ∙ f .long;
+      rows = λ i hi. counts-out _ _ _ _ _ _ _ r i (inl (omega arith)) ∙ f .rows i hi;
       done = λ m q j lo hi.
           elim (ℕ-discrete (vertexAt l m) (vertexAt l k)) [
             | yes e ↦ rw e (now-done j lo hi)
@@ -80,9 +80,7 @@ module _ (n : ℕ) (s l : List ℕ) (h : Ordered n s l) (shape : Shape n s) (c w
             ]
           ];
       kept = λ i j hi hj q. stays i j hj (λ e. q) ∙ f .kept i j hi hj q;
-      rest = λ x q.
-          counts-out n t (vertexAt l k) c w (successorsSum n t (vertexAt l k)) u r x (inr (omega (arith, within, row-counts n (vertexAt l k) (h .order .vertex k hk))))
-          ∙ f .rest x q;
+      rest = λ x q. counts-out _ _ _ _ _ _ _ r x (inr (omega (arith, within, row-counts n (vertexAt l k) (h .order .vertex k hk)))) ∙ f .rest x q;
     }
 
   -- ---- all rows

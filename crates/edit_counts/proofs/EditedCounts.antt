@@ -86,16 +86,16 @@ module _ (inserts : Bool) (n : ℕ) (s : List ℕ) (v a : ℕ) (T : List ℕ) wh
         → ((j : ℕ) → j < n → f j ≡ countBy inserts n s v a T i j) → Editing inserts n s v a T (i + 1) w
     editing-more f w fits e is =
         record {
-          long = counts-long n t i 0 n g w row ∙ was .long;
+          long = counts-long _ _ _ _ _ _ _ row ∙ was .long;
           done = λ k q j hj.
               elim (ℕ-discrete k i) [
-                | yes p ↦ rw p (counts-in n t i 0 n g w row (omega arith) j (omega arith) (omega arith))
-                | no p ↦ counts-stay n t i 0 n g w row (omega arith) k j hj (λ o. absurd (p o)) ∙ was .done k (omega (arith, p)) j hj
+                | yes p ↦ rw p (counts-in _ _ _ _ _ _ _ row (omega arith) j (omega arith) (omega arith))
+                | no p ↦ counts-stay _ _ _ _ _ _ _ row (omega arith) k j hj (λ o. absurd (p o)) ∙ was .done k (omega (arith, p)) j hj
               ];
           kept = λ x q.
               elim q [
-                | inl p ↦ counts-out n t i 0 n g w row x (inl (omega arith)) ∙ was .kept x (inl p)
-                | inr p ↦ counts-out n t i 0 n g w row x (inr (omega (arith, suc-mul i n, add-one i))) ∙ was .kept x (inr (omega (arith, suc-mul i n, add-one i)))
+                | inl p ↦ counts-out _ _ _ _ _ _ _ row x (inl (omega arith)) ∙ was .kept x (inl p)
+                | inr p ↦ counts-out _ _ _ _ _ _ _ row x (inr (omega (arith, suc-mul i n, add-one i))) ∙ was .kept x (inr (omega (arith, suc-mul i n, add-one i)))
               ];
         }
       where

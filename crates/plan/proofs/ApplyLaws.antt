@@ -140,8 +140,8 @@ module _ (n : ℕ) (s plan : List ℕ) (a : Answer) (t : List ℕ) (h : Reached 
   reached-number = ap (λ (x : Answer). x .number) (h .answered)
 
   -- the words kept aside are those of s, and put back they are s
-  pub all-refused : (a .number ≡ 0 → ⊥) → (z kept u : List ℕ) (m : ℕ) → m ≡ length s → length s ≤ length z → kept ≡ over z 0 (λ (j : ℕ). getD s j 0) m
-      → length t ≡ length s → u ≡ over t 0 (λ (j : ℕ). getD kept j 0) m → AppliedAll n s plan a u
+  pub all-refused : (a .number ≡ 0 → ⊥) → (z kept u : List ℕ) (m : ℕ) → m ≡ length s → length s ≤ length z
+      → kept ≡ over z 0 (λ (j : ℕ). getD s j 0) m → length t ≡ length s → u ≡ over t 0 (λ (j : ℕ). getD kept j 0) m → AppliedAll n s plan a u
   all-refused d z kept u m em w ek et eu = record {
     answered = h .answered ∙ ap (λ (x : ℕ). answer (appliedPlan n s plan .number) (appliedPlan n s plan .place) x)
         (sym (decided-old (appliedPlan n s plan .number) _ 0 (λ q. d (reached-number ∙ q))));

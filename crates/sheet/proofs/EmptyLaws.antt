@@ -17,13 +17,12 @@ use Rattle.sheet_theory.proofs.LayoutLaws.{counts-within, row-counts, row-withi
 -- words of which each is set to 0 are zeros
 pub zeros-filled : (m : ℕ) (s w : List ℕ) (k : ℕ) → length s ≡ m → w ≡ puts s (λ (j : ℕ). j) (λ (j : ℕ). 0) k → k ≡ m → w ≡ replicate m 0
 zeros-filled m s w k es ew ek =
-    let z : List ℕ = puts s (λ (j : ℕ). j) (λ (j : ℕ). 0) m in
-    ew
-    ∙ rw ek
-    (ext-getD 0 z (replicate m 0) (length-puts s (λ j. j) (λ j. 0) m ∙ es ∙ sym (length-replicate {A = ℕ} m 0))
+    let long : length w ≡ m = ap length ew ∙ length-puts s (λ j. j) (λ j. 0) k ∙ es in
+    ext-getD 0 w (replicate m 0) (long ∙ sym (length-replicate {A = ℕ} m 0))
     (λ j q.
-    let l : j < m = omega (arith, length-puts s (λ j. j) (λ j. 0) m) in
-    puts-in s (λ i. i) (λ i. 0) m j l (omega arith) (λ i x y e. omega arith) ∙ sym (getD-replicate {A = ℕ} m j 0 0 l)))
+    ap (λ (l : List ℕ). getD l j 0) ew
+    ∙ puts-in s (λ i. i) (λ i. 0) k j (omega arith) (omega arith) (λ i x y e. omega arith)
+    ∙ sym (getD-replicate {A = ℕ} m j 0 0 (omega arith)))
 
 module _ (n : ℕ) (w t : List ℕ) (ew : w ≡ replicate (size n) 0) (et : t ≡ puts w (diagonalAt n) (λ (k : ℕ). 1) n) where
   -- a place that is on no diagonal

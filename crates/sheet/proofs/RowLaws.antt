@@ -48,20 +48,28 @@ module _ (op : ℕ → ℕ → ℕ) (n : ℕ) (s : List ℕ) (base : ℕ) (t u :
 module _ (n : ℕ) (s : List ℕ) (i c w : ℕ) (f : ℕ → ℕ) where
   pub counts-written : (t : List ℕ) (base : ℕ) (g : ℕ → ℕ) → t ≡ over s base g w → base ≡ countsFrom n i + c → ((j : ℕ) → j < w → g j ≡ f (c + j))
       → t ≡ withCounts n s i c w f
+  unfolding withCounts
   counts-written t base g et eb eg =
       et ∙ puts-cong s (λ j. base + j) g (λ j. f (c + j)) w eg ∙ ap (λ (b : ℕ). over s b (λ j. f (c + j)) w) eb
 
   module _ (t : List ℕ) (et : t ≡ withCounts n s i c w f) where
+    pub counts-as : (g : ℕ → ℕ) → ((j : ℕ) → c ≤ j → j < c + w → f j ≡ g j) → t ≡ withCounts n s i c w g
+    unfolding withCounts
+    counts-as g h = et ∙ puts-cong s (λ j. countsFrom n i + c + j) (λ j. f (c + j)) (λ j. g (c + j)) w (λ j q. h (c + j) (omega arith) (omega arith))
+
     pub counts-long : length t ≡ length s
+    unfolding withCounts
     counts-long = ap length et ∙ length-puts s (λ j. countsFrom n i + c + j) (λ j. f (c + j)) w
 
     pub counts-in : countsFrom n i + c + w ≤ length s → (j : ℕ) → c ≤ j → j < c + w → countAt n t i j ≡ f j
+    unfolding withCounts
     counts-in h j low high =
         let e : c + (j - c) ≡ j = omega arith in
         let at : countsFrom n i + c + (j - c) ≡ countsFrom n i + j = omega arith in
         ap₂ (λ (l : List ℕ) (k : ℕ). getD l k 0) et (sym at) ∙ over-in s (countsFrom n i + c) (λ j. f (c + j)) w (j - c) h (omega arith) ∙ ap f e
 
     pub counts-out : (k : ℕ) → (k < countsFrom n i + c) ⊎ (countsFrom n i + c + w ≤ k) → getD t k 0 ≡ getD s k 0
+    unfolding withCounts
     counts-out k q = ap (λ (l : List ℕ). getD l k 0) et ∙ over-out s (countsFrom n i + c) (λ j. f (c + j)) w k q
 
     -- the counts from another vertex, and those to other columns, stay

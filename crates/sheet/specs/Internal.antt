@@ -45,5 +45,5 @@ pub record RowsSummed (n : ℕ) (s : List ℕ) (mask : ℕ) (t : List ℕ) : Typ
   pub sums : (j : ℕ) → j < n → getD t j 0 ≡ sum n (λ b. bit mask b * countAt n s b j) % 2 ^ 64
 
 -- s with f j for the count from i to j, for each of the w columns j from c on
-abbrev pub withCounts : ℕ → List ℕ → ℕ → ℕ → ℕ → (ℕ → ℕ) → List ℕ
+unfoldable pub withCounts : ℕ → List ℕ → ℕ → ℕ → ℕ → (ℕ → ℕ) → List ℕ
 withCounts n s i c w f = over s (countsFrom n i + c) (λ j. f (c + j)) w

@@ -14,7 +14,8 @@ returns c =
     let start = words .before .before .before in
     let a = start .args in
     all-refused (a .n) (a .sheet .now) (a .plan .now) _ _ (ends .apply .ensures) (c .before .before .before .before .before .if1 .taken) _ _ _
-    _ (words .word-count .ensures ∙ sym (start .pre .0 .long)) (sheet-long _ _ (start .pre .0)) (kept .copy-words .ensures) (omega arith) (c .before .before .copy-words2 .ensures)
+    _ (words .word-count .ensures ∙ sym (start .pre .0 .long)) (sheet-long _ _ (start .pre .0)) (kept .copy-words .ensures) (omega arith)
+    (c .before .before .copy-words2 .ensures)
 
 returns-2 : tie.Need-returns-2
 returns-2 c = search all-accepted
