@@ -16,6 +16,7 @@ use Rattle.text.proofs.TextLaws.{put-none, put-length, put-more}
 use Rattle.answer.specs.declared.Answer.{Answer}
 use Rattle.answer.specs.Answers.{decided}
 use Rattle.sheet_theory.specs.Layout.{mostVertices, countAt}
+use Rattle.sheet_theory.specs.Lent.{Lent}
 use Rattle.answer.proofs.AnswerLaws.{decided-old}
 use Rattle.listing_theory.specs.Lines.{decimal, pipesLabel, pipesLine, recordLabel, refusedLabel, refusedLine, countLine, pairLine, rowLines, countLines, printed}
 use Rattle.listing_theory.proofs.DecimalLaws.{decimal-le}
@@ -134,14 +135,14 @@ rows-le s = gather-bound mostVertices (rowLines s) (mostVertices * 27) (λ i hi.
 
 -- ---- what is printed of a plan that is answered with r and has left s
 
-module _ (r : Answer) (s out l : List ℕ) (p : ℕ) where
+module _ (r : Answer) (s : Lent) (out l : List ℕ) (p : ℕ) where
   pub printed-refused : (r .number ≡ 0 → ⊥) → Put out 0 (refusedLine (r .place) (r .number)) l p → Put out 0 (printed r s) l p
   printed-refused d u = subst (λ (y : List ℕ). Put out 0 y l p) (sym (decided-old (r .number) _ _ d)) u
 
-  pub printed-accepted : r .number ≡ 0 → Put out 0 (pipesLine (r .value)) l p → (m : List ℕ) (q : ℕ) → Put l p (countLines s) m q
+  pub printed-accepted : r .number ≡ 0 → Put out 0 (pipesLine (r .value)) l p → (m : List ℕ) (q : ℕ) → Put l p (countLines (s .words)) m q
       → 27 ≤ length out → Put out 0 (printed r s) m q
   printed-accepted z first m q rest h =
-      let e : pipesLine (r .value) ++ countLines s ≡ printed r s
-      = ap (λ (k : ℕ). decided k (pipesLine (r .value) ++ countLines s) (refusedLine (r .place) (r .number))) (sym z) in
+      let e : pipesLine (r .value) ++ countLines (s .words) ≡ printed r s
+      = ap (λ (k : ℕ). decided k (pipesLine (r .value) ++ countLines (s .words)) (refusedLine (r .place) (r .number))) (sym z) in
       subst (λ (y : List ℕ). Put out 0 y m q) e
-      (put-more out 0 (pipesLine (r .value)) l p first (countLines s) m q (omega (arith, pipes-le (r .value))) rest)
+      (put-more out 0 (pipesLine (r .value)) l p first (countLines (s .words)) m q (omega (arith, pipes-le (r .value))) rest)

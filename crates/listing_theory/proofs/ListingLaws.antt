@@ -15,6 +15,7 @@ use Rattle.graph.proofs.Lists.{exactly-only}
 use Rattle.answer.specs.declared.Answer.{Answer}
 use Rattle.answer.specs.Table.{_gives_, First}
 use Rattle.sheet_theory.specs.Layout.{mostVertices, countAt, edgeAt, setBits, emptySheet}
+use Rattle.sheet_theory.specs.Lent.{Lent, lent, emptyLent}
 use Rattle.sheet_theory.specs.Valid.{Valid}
 use Rattle.sheet_theory.proofs.ValidLaws.{valid-passed}
 use Rattle.answer.proofs.AnswerLaws.{decided-old}
@@ -32,26 +33,26 @@ use Rattle.listing_theory.proofs.LineLaws.{pair-hidden, pair-shown}
 -- ---- the reading that is listed
 
 -- the length decides 13, and nothing before it holds of the empty sheet
-listing-first : (plan : List ℕ) → First (readConditions mostVertices (emptySheet mostVertices) plan) (lengthNumber (length plan))
+listing-first : (plan : List ℕ) → First (readConditions mostVertices (emptyLent mostVertices) plan) (lengthNumber (length plan))
 listing-first plan =
-    valid-passed mostVertices (emptySheet mostVertices) (empty-valid mostVertices (omega arith) (omega arith))
+    valid-passed mostVertices (emptyLent mostVertices) (empty-valid mostVertices (omega arith) (omega arith))
     (BadPlan plan gives 13 ∷ []) (lengthNumber (length plan)) (length-first plan)
 
 -- THE READING: what is listed is what reading the plan into the empty sheet answers and leaves
-pub listing-reads : (plan : List ℕ) → ReadPlan mostVertices (emptySheet mostVertices) plan (listedAnswer plan) (listedSheet plan)
+pub listing-reads : (plan : List ℕ) → ReadPlan mostVertices (emptyLent mostVertices) plan (listedAnswer plan) (listedSheet plan)
 listing-reads plan = record { k = lengthNumber (length plan); first = listing-first plan; answers = refl; leaves = refl }
 
 -- which answers and leaves nothing else
-pub listed-only : (plan : List ℕ) (r : Answer) (t : List ℕ) → ReadPlan mostVertices (emptySheet mostVertices) plan r t
+pub listed-only : (plan : List ℕ) (r : Answer) (t : Lent) → ReadPlan mostVertices (emptyLent mostVertices) plan r t
     → (r ≡ listedAnswer plan) × (t ≡ listedSheet plan)
-listed-only plan r t h = read-only mostVertices (emptySheet mostVertices) plan r (listedAnswer plan) t (listedSheet plan) h (listing-reads plan)
+listed-only plan r t h = read-only mostVertices (emptyLent mostVertices) plan r (listedAnswer plan) t (listedSheet plan) h (listing-reads plan)
 
 -- `list`: s is the empty sheet, which reading the plan has turned into t
-module _ (plan s : List ℕ) (empty : s ≡ emptySheet mostVertices) (r : Answer) (t : List ℕ) (read : ReadPlan mostVertices s plan r t) where
+module _ (plan s : List ℕ) (empty : s ≡ emptySheet mostVertices) (r : Answer) (t : Lent) (read : ReadPlan mostVertices (lent s) plan r t) where
   listed : printed r t ≡ listing plan
   unfolding listing
   listed =
-      let e = listed-only plan r t (subst (λ (x : List ℕ). ReadPlan mostVertices x plan r t) empty read) in
+      let e = listed-only plan r t (subst (λ (x : List ℕ). ReadPlan mostVertices (lent x) plan r t) empty read) in
       ap₂ printed (e .0) (e .1)
 
   module _ (out l : List ℕ) (p : ℕ) (put : Put out 0 (printed r t) l p) where
@@ -87,27 +88,27 @@ listing-cut input =
 
 -- of one that is accepted: how many edges there are, and a line for each two vertices that differ and have a count above 0
 module _ (plan : List ℕ) (z : listedAnswer plan .number ≡ 0) where
-  pub listed-accepted : AcceptedPlan mostVertices (emptySheet mostVertices) plan (listedAnswer plan) (listedSheet plan)
-  listed-accepted = read-accepted mostVertices (emptySheet mostVertices) plan (listedAnswer plan) (listedSheet plan) (listing-reads plan) z
+  pub listed-accepted : AcceptedPlan mostVertices (emptyLent mostVertices) plan (listedAnswer plan) (listedSheet plan)
+  listed-accepted = read-accepted mostVertices (emptyLent mostVertices) plan (listedAnswer plan) (listedSheet plan) (listing-reads plan) z
 
-  pub listing-accepted : listing plan ≡ pipesLine (setBits mostVertices (listedSheet plan)) ++ countLines (listedSheet plan)
+  pub listing-accepted : listing plan ≡ pipesLine (setBits mostVertices (listedSheet plan .words)) ++ countLines (listedSheet plan .words)
   unfolding listing
   listing-accepted = ap (λ (r : Answer). printed r (listedSheet plan)) (listed-accepted .answered)
 
 -- THE LISTING OF A SHEET: what is written of a valid sheet is listed by how many edges it has and the lines of its counts
-pub listing-plan : (s : List ℕ) → Valid mostVertices s → listing (planOf mostVertices s) ≡ pipesLine (setBits mostVertices s) ++ countLines s
+pub listing-plan : (s : Lent) → Valid mostVertices s → listing (planOf mostVertices s) ≡ pipesLine (setBits mostVertices (s .words)) ++ countLines (s .words)
 listing-plan s v =
     let p = planOf mostVertices s in
     let e = round-trip mostVertices s v (listedAnswer p) (listedSheet p) (listing-reads p) in
-    listing-accepted p (ap (λ (r : Answer). r .number) (e .0)) ∙ ap (λ (t : List ℕ). pipesLine (setBits mostVertices t) ++ countLines t) (e .1)
+    listing-accepted p (ap (λ (r : Answer). r .number) (e .0)) ∙ ap (λ (t : Lent). pipesLine (setBits mostVertices (t .words)) ++ countLines (t .words)) (e .1)
 
 -- on a valid sheet the line of two different vertices has the number of paths between them, and there is none where there is no path
-pub pair-paths : (s : List ℕ) (i j c : ℕ) → Valid mostVertices s → i < mostVertices → j < mostVertices → ¬ (i ≡ j)
-    → Exactly (IsPath mostVertices (edgeAt s) i j) (suc c) → pairLine s i j ≡ countLine i j (suc c)
+pub pair-paths : (s : Lent) (i j c : ℕ) → Valid mostVertices s → i < mostVertices → j < mostVertices → ¬ (i ≡ j)
+    → Exactly (IsPath mostVertices (edgeAt (s .words)) i j) (suc c) → pairLine (s .words) i j ≡ countLine i j (suc c)
 pair-paths s i j c v hi hj d x =
-    let e : countAt mostVertices s i j ≡ suc c = exactly-only (v .counts i j hi hj) x in
-    pair-shown s i j d (omega arith) ∙ ap (countLine i j) e
+    let e : countAt mostVertices (s .words) i j ≡ suc c = exactly-only (v .counts i j hi hj) x in
+    pair-shown (s .words) i j d (omega arith) ∙ ap (countLine i j) e
 
-pub pair-no-path : (s : List ℕ) (i j : ℕ) → Valid mostVertices s → i < mostVertices → j < mostVertices
-    → Exactly (IsPath mostVertices (edgeAt s) i j) 0 → pairLine s i j ≡ []
-pair-no-path s i j v hi hj x = pair-hidden s i j (inr (exactly-only (v .counts i j hi hj) x))
+pub pair-no-path : (s : Lent) (i j : ℕ) → Valid mostVertices s → i < mostVertices → j < mostVertices
+    → Exactly (IsPath mostVertices (edgeAt (s .words)) i j) 0 → pairLine (s .words) i j ≡ []
+pair-no-path s i j v hi hj x = pair-hidden (s .words) i j (inr (exactly-only (v .counts i j hi hj) x))

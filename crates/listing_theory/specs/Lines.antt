@@ -8,6 +8,7 @@ use Rattle.text.specs.Text.{twoDigits}
 use Rattle.answer.specs.declared.Answer.{Answer}
 use Rattle.answer.specs.Answers.{decided}
 use Rattle.sheet_theory.specs.Layout.{mostVertices, countAt}
+use Rattle.sheet_theory.specs.Lent.{Lent}
 
 -- the decimal digits of x, at most m of them: those of x / 10, unless that is 0, and the last
 unfoldable pub digitsUpTo : ℕ → ℕ → List ℕ
@@ -52,8 +53,8 @@ unfoldable pub countLines : List ℕ → List ℕ
 countLines s = gather mostVertices (rowLines s)
 
 -- what is printed of a plan that is answered with r and has left s
-abbrev pub printed : Answer → List ℕ → List ℕ
-printed r s = decided (r .number) (pipesLine (r .value) ++ countLines s) (refusedLine (r .place) (r .number))
+abbrev pub printed : Answer → Lent → List ℕ
+printed r s = decided (r .number) (pipesLine (r .value) ++ countLines (s .words)) (refusedLine (r .place) (r .number))
 
 -- the bytes in which all that is printed fits: 27 for the first line and for each of 64 × 64 others
 abbrev pub mostListed : ℕ
