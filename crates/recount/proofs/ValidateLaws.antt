@@ -1,23 +1,21 @@
--- The ways out of `is_valid`, `validate` and `sheet_number`: r is what the call answers, k what the check of the shape gave; and further
--- conditions after those of a sheet that has to be valid. Assumes nothing.
+-- The ways out of `is_valid` and `validate`, and of the checks of a sheet that has to be valid: r is what the call answers, k what the check
+-- of the shape gave. Assumes nothing.
 use mathlib.Core.Path.{_≡_, refl}
 use mathlib.Core.Logic.{inl, inr}
 use mathlib.Core.Bool.{Bool, true, false}
 use mathlib.Core.List.{List, []}
 use Prim.Native.Nat.{ℕ, _<_}
 use Rattle.sheet_theory.specs.Layout.{Shape}
-use Rattle.answer.specs.Table.{Conditions, First, Reflects}
+use Rattle.answer.specs.Table.{First, Reflects}
 use Rattle.sheet_theory.specs.Conditions.{StrayRow, sized}
 use Rattle.sheet_theory.specs.Lent.{Lent, lent}
 use Rattle.sheet_theory.specs.Valid.{Valid, notValid, validConditions}
 use Rattle.sheet_theory.specs.Internal.{RowHolds}
 use Rattle.answer.specs.declared.Answer.{Answer}
-use Rattle.answer.specs.Answers.{answer, decided}
-use Rattle.answer.proofs.TableLaws.{reflects-none, reflects-false, reflects-iff, first-only, first-more}
-use Rattle.answer.proofs.ByNumber.{first-join}
-use Rattle.sheet_theory.proofs.ValidLaws.{valid-iff-holds, accepted-valid, valid-passed}
+use Rattle.answer.specs.Answers.{answer}
+use Rattle.answer.proofs.TableLaws.{reflects-none, reflects-false, reflects-iff, first-only}
+use Rattle.sheet_theory.proofs.ValidLaws.{valid-iff-holds}
 use Rattle.sheet_theory.proofs.ShapeLaws.{shape-of, shape-refused, shape-passed}
-use Rattle.recount.specs.Internal.{SheetNumber}
 use Rattle.order.specs.Internal.{OrderFound}
 use Rattle.recount_theory.specs.Calls.{Validate}
 use Rattle.order.proofs.OrderLaws.{ordered-acyclic}
@@ -53,28 +51,20 @@ module _ (n : ℕ) (s : Lent) (k : ℕ) (f : First (sized n s []) k) where
   pub validate-not : (r : Answer) (t : Bool) → r ≡ answer 0 0 0 → k ≡ 0 → Reflects t (Valid n s) → t ≡ false → Validate n s r
   validate-not r t er z v e = rw er record { number = shape-passed n s (shape-of n s k f z) [] 0 refl; place = refl; value = inr (reflects-false v .0 e, refl) }
 
--- ---- sheet_number: k is what the check of the shape gave
+-- ---- valid_number, sheet_number and altering_sheet_number
 
-module _ (n : ℕ) (s : Lent) (k : ℕ) (f : First (sized n s []) k) where
-  pub sheet-shape : (k ≡ 0 → ⊥) → SheetNumber n s k
-  sheet-shape d = shape-refused n s k f d (notValid n s [])
+module _ (n : ℕ) (s : Lent) where
+  module _ (t : Bool) (v : Reflects t (Valid n s)) where
+    pub valid-number : t ≡ true → First (notValid n s []) 0
+    valid-number e = inr (λ d. d (v .holds e), refl)
 
-  module _ (t : Bool) (z : k ≡ 0) (v : Reflects t (Valid n s)) where
-    pub sheet-not-valid : t ≡ false → SheetNumber n s 9
-    sheet-not-valid e = shape-passed n s (shape-of n s k f z) (notValid n s []) 9 (inl (reflects-false v .0 e, refl))
+    pub valid-number-not : t ≡ false → First (notValid n s []) 9
+    valid-number-not e = inl (reflects-false v .0 e, refl)
 
-    pub sheet-valid : t ≡ true → SheetNumber n s 0
-    sheet-valid e = valid-passed n s (v .holds e) [] 0 refl
+  -- k is what the check of the shape gave
+  module _ (k : ℕ) (f : First (sized n s []) k) where
+    pub sheet-shape : (k ≡ 0 → ⊥) → First (validConditions n s []) k
+    sheet-shape d = shape-refused n s k f d (notValid n s [])
 
--- ---- further conditions l after those of the sheet
-
-module _ (n : ℕ) (s : Lent) (l : Conditions) (k : ℕ) (h : SheetNumber n s k) where
-  pub valid-stops : (k ≡ 0 → ⊥) → First (validConditions n s l) k
-  valid-stops d = first-more (validConditions n s []) l k h d
-
-  pub valid-of : k ≡ 0 → Valid n s
-  valid-of z = accepted-valid n s [] (rw z at h)
-
-  -- what the checks of the sheet give, and where that is 0 what the further conditions give
-  pub valid-then : (j : ℕ) → First l j → First (validConditions n s l) (decided k j k)
-  valid-then j f = first-join (validConditions n s []) l k j refl h (λ z. f)
+    pub sheet-then : k ≡ 0 → (j : ℕ) → First (notValid n s []) j → First (validConditions n s []) j
+    sheet-then z j = shape-passed n s (shape-of n s k f z) (notValid n s []) j

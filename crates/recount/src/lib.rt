@@ -1,13 +1,13 @@
 // The counts of a sheet worked out afresh from its rows, and the test whether a sheet is valid. The calls of this file answer every n,
 // every length and all words.
 ghost use mathlib.Core.Path.{_≡_};
-ghost use Rattle.answer.specs.Table.{Reflects};
+ghost use mathlib.Core.List.{[]};
+ghost use Rattle.answer.specs.Table.{First, Reflects};
 ghost use Rattle.sheet_theory.specs.Layout.{Shape};
 ghost use Rattle.sheet_theory.specs.Lent.{lent};
-ghost use Rattle.sheet_theory.specs.Valid.{Valid};
+ghost use Rattle.sheet_theory.specs.Valid.{Valid, notValid, validConditions, alteringValid};
 ghost use Rattle.sheet_theory.specs.Internal.{RowsBelow};
 ghost use Rattle.recount_theory.specs.Calls.{Recount, Validate};
-ghost use Rattle.recount.specs.Internal.{SheetNumber};
 ghost use Rattle.count_rows.specs.Internal.{counted};
 ghost use Rattle.order.specs.Internal.{Ordered};
 use sheet::Answer;
@@ -87,16 +87,35 @@ pub fn validate(n: usize, sheet: &[u64]) -> Answer
     Answer::accepted(0)
 }
 
-// Internal: the number by which a sheet that has to be valid is refused: 1, 2, 9; or 0.
+// 9 if a sheet of the right shape is not valid.
+fn valid_number(n: usize, sheet: &[u64]) -> u64
+    requires { ⌜ Shape n (now sheet) ⌝ }
+    ensures { λ r. ⌜ First (notValid n (lent (now (sheet .entry))) []) r ⌝ }
+{
+    if is_valid(n, sheet) {
+        return 0;
+    }
+    Refusal::NOT_VALID
+}
+
+// Internal: what a call that reads a sheet, which has to be valid, looks for first: 1, 2, 9.
 pub fn sheet_number(n: usize, sheet: &[u64]) -> u64
-    ensures { λ r. ⌜ SheetNumber n (lent (now (sheet .entry))) r ⌝ }
+    ensures { λ r. ⌜ First (validConditions n (lent (now (sheet .entry))) []) r ⌝ }
 {
     let number = sheet::checks::shape_number(n, sheet);
     if number != 0 {
         return number;
     }
-    if !is_valid(n, sheet) {
-        return Refusal::NOT_VALID;
+    valid_number(n, sheet)
+}
+
+// Internal: what a call that alters a sheet, which has to be valid, looks for first: 1, 2, 9.
+pub fn altering_sheet_number(n: usize, sheet: &[u64]) -> u64
+    ensures { λ r. ⌜ First (alteringValid n (lent (now (sheet .entry))) []) r ⌝ }
+{
+    let number = sheet::checks::altering_number(n, sheet);
+    if number != 0 {
+        return number;
     }
-    0
+    valid_number(n, sheet)
 }
