@@ -4,6 +4,7 @@ ghost use Prim.Native.Nat.{_+_, _≤_, _<_};
 ghost use lib.ListN.{length};
 ghost use Rattle.text.specs.Text.{Put};
 ghost use Rattle.sheet_theory.specs.Layout.{mostVertices, Shape};
+ghost use Rattle.sheet_theory.specs.Lent.{lent};
 ghost use Rattle.listing_theory.specs.Lines.{decimal, pipesLine, refusedLine, countLine, pairLine, rowLines, countLines, printed, mostListed};
 use crate::number;
 use sheet::Answer;
@@ -98,7 +99,7 @@ fn put_rows(sheet: &[u64], out: &mut [u8], at: usize) -> usize
 // What is printed of a plan that is answered so and has left the sheet, in the first places: how many bytes it has.
 pub(crate) fn write(answer: Answer, sheet: &[u64], out: &mut [u8]) -> usize
     requires { ⌜ (Shape mostVertices (now sheet)) × (mostListed ≤ length (now out)) ⌝ }
-    ensures { λ r. ⌜ Put (now (out .entry)) 0 (printed answer (now (sheet .entry))) (now (out .exit)) r ⌝ }
+    ensures { λ r. ⌜ Put (now (out .entry)) 0 (printed answer (lent (now (sheet .entry)))) (now (out .exit)) r ⌝ }
 {
     let number = answer.number;
     if number != 0 {

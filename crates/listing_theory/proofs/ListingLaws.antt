@@ -14,6 +14,7 @@ use Rattle.graph.specs.Graph.{Exactly, IsPath}
 use Rattle.graph.proofs.Lists.{exactly-only}
 use Rattle.answer.specs.declared.Answer.{Answer}
 use Rattle.answer.specs.Table.{_gives_, First}
+use Rattle.answer.proofs.TableLaws.{first-only}
 use Rattle.sheet_theory.specs.Layout.{mostVertices, countAt, edgeAt, setBits, emptySheet}
 use Rattle.sheet_theory.specs.Lent.{Lent, lent, emptyLent}
 use Rattle.sheet_theory.specs.Valid.{Valid}
@@ -76,7 +77,7 @@ listing-refused plan d = decided-old (listedAnswer plan .number) _ _ d
 -- of one that is too long: 0 and 13, whatever it consists of
 pub listing-long : (plan : List ℕ) → mostBytes < length plan → listing plan ≡ refusedLine 0 13
 unfolding listing
-listing-long plan h = rw (← length-long (length plan) h)
+listing-long plan h = rw (first-only _ _ 13 (length-first plan) (length-long plan h))
 
 -- so a program that reads so many bytes lists the whole input
 pub listing-cut : (input : List ℕ) → listing (take inputBytes input) ≡ listing input

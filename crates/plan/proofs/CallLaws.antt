@@ -1,4 +1,4 @@
--- The ways out of the calls and of their checks: k is what the checks of the sheet gave. Assumes nothing.
+-- The ways out of the calls and of their checks: k is what the checks gave. Assumes nothing.
 use mathlib.Core.Path.{_≡_, refl, sym, ap, _∙_}
 use mathlib.Core.Logic.{inl, inr}
 use mathlib.Core.List.{List, [], _∷_}
@@ -10,27 +10,28 @@ use Rattle.text.specs.Text.{written}
 use Rattle.answer.specs.declared.Answer.{Answer}
 use Rattle.answer.specs.Table.{_gives_, Conditions, First}
 use Rattle.answer.specs.Answers.{answer, decided}
-use Rattle.sheet_theory.specs.Layout.{Shape, setBits}
-use Rattle.answer.proofs.TableLaws.{first-past}
+use Rattle.sheet_theory.specs.Layout.{setBits}
+use Rattle.sheet_theory.specs.Lent.{Lent, Lends}
+use Rattle.sheet_theory.specs.Valid.{Valid, validConditions, alteringValid}
+use Rattle.answer.proofs.TableLaws.{first-more}
+use Rattle.answer.proofs.ByNumber.{first-not, first-join}
 use Rattle.answer.proofs.AnswerLaws.{decided-old}
 use Rattle.sheet_theory.proofs.Meaning.{valid-edges-le}
 use Rattle.plan_theory.specs.PlanOf.{planOf}
-use Rattle.plan_theory.specs.Calls.{BadPlan, lengthNumber, readConditions, readAnswer, ReadPlan, ShortBuffer, writeConditions, WritePlan}
-use Rattle.recount.specs.Internal.{SheetNumber}
-use Rattle.recount.proofs.ValidateLaws.{valid-stops, valid-of, valid-passes, valid-then}
-use Rattle.plan.specs.Internal.{ReadNumber, AppliedAll}
-use Rattle.sheet_theory.proofs.ValidLaws.{accepted-valid}
+use Rattle.plan_theory.specs.Calls.{BadPlan, readConditions, readAnswer, ReadPlan, ShortBuffer, writeConditions, WritePlan}
+use Rattle.plan.specs.Internal.{AppliedAll}
+use Rattle.sheet_theory.proofs.ValidLaws.{accepted-valid, valid-passed}
 use Rattle.plan_theory.proofs.PlanOfLaws.{plan-length}
-use Rattle.plan_theory.proofs.LengthLaws.{length-first}
 
 -- ---- read_number
 
-pub read-first : (n : ℕ) (s plan : List ℕ) (k j r : ℕ) → SheetNumber n s k → j ≡ lengthNumber (length plan) → r ≡ decided k j k → ReadNumber n s plan r
-read-first n s plan k j r h ej er = rw (er, ej) (valid-then n s (BadPlan plan gives 13 ∷ []) k h (lengthNumber (length plan)) (length-first plan))
+pub read-first : (n : ℕ) (s : Lent) (plan : List ℕ) (k j : ℕ) → First (alteringValid n s []) k → First (BadPlan plan gives 13 ∷ []) j
+    → (r : ℕ) → r ≡ decided k j k → First (readConditions n s plan) r
+read-first n s plan k j f g r er = rw er (first-join (alteringValid n s []) (BadPlan plan gives 13 ∷ []) k j refl f (λ z. g))
 
 -- ---- read_plan
 
-module _ (n : ℕ) (s plan : List ℕ) (k : ℕ) (h : ReadNumber n s plan k) where
+module _ (n : ℕ) (s : Lent) (plan : List ℕ) (k : ℕ) (h : First (readConditions n s plan) k) where
   pub read-stops : (k ≡ 0 → ⊥) → (r : Answer) → r ≡ answer k 0 0 → ReadPlan n s plan r s
   read-stops d r er = record {
     k = k;
@@ -39,57 +40,57 @@ module _ (n : ℕ) (s plan : List ℕ) (k : ℕ) (h : ReadNumber n s plan k) whe
     leaves = sym (decided-old (r .number) _ s (λ z. d (sym (ap (λ (x : Answer). x .number) er) ∙ z)));
   }
 
-  pub read-applied : k ≡ 0 → (r : Answer) (t : List ℕ) → AppliedAll n s plan r t → ReadPlan n s plan r t
+  pub read-applied : k ≡ 0 → (r : Answer) (t : Lent) → AppliedAll n s plan r t → ReadPlan n s plan r t
   read-applied z r t p = record {
     k = k;
     first = h;
     answers = p .answered ∙ ap (readAnswer n s plan) (sym z);
-    leaves = p .words;
+    leaves = p .left;
   }
 
-  -- what `apply_all` asks
-  pub read-ready : k ≡ 0 → Shape n s × (length plan % 8 ≡ 0)
+  -- what `apply_core` asks
+  pub read-ready : k ≡ 0 → Lends n s × (length plan % 8 ≡ 0)
   read-ready z =
       let f : First (readConditions n s plan) 0 = rw z at h in
-      (accepted-valid n s (BadPlan plan gives 13 ∷ []) f .shape, whole (first-past (first-past (first-past (first-past f .1) .1) .1) .0))
+      (accepted-valid n s (BadPlan plan gives 13 ∷ []) f .shape, whole (first-not (readConditions n s plan) 0 f 13 refl))
     where
       whole : ¬ (BadPlan plan) → length plan % 8 ≡ 0
       whole d = elim (ℕ-discrete (length plan % 8) 0) [ yes e ↦ e | no c ↦ absurd (d (inl c)) ]
 
 -- ---- write_plan: b is the number of set bits
 
-module _ (n : ℕ) (s p : List ℕ) (k : ℕ) (h : SheetNumber n s k) where
-  abbrev buffer : Conditions
-  buffer = ShortBuffer n s (length p) gives 10 ∷ []
+module _ (n : ℕ) (s : Lent) (k : ℕ) (h : First (validConditions n s []) k) where
+  pub write-valid : k ≡ 0 → Valid n s
+  write-valid z = accepted-valid n s [] (rw z at h)
 
-  refuses : (j : ℕ) → First (writeConditions n s (length p)) j → (j ≡ 0 → ⊥) → (r : Answer) → r ≡ answer j 0 0 → WritePlan n s p r p
-  refuses j f d r er = rw er record { number = f; place = refl; value = sym (decided-old j _ 0 d); bytes = sym (decided-old j _ p d) }
+  pub write-few : k ≡ 0 → (b : ℕ) → b ≡ setBits n (s .words) → b ≤ 2016
+  write-few z b eb = omega (arith, eb, valid-edges-le n s (write-valid z))
 
-  pub write-stops : (k ≡ 0 → ⊥) → (r : Answer) → r ≡ answer k 0 0 → WritePlan n s p r p
-  write-stops d = refuses k (valid-stops n s buffer k h d) d
+  module _ (p : List ℕ) where
+    abbrev buffer : Conditions
+    buffer = ShortBuffer n s (length p) gives 10 ∷ []
 
-  module _ (z : k ≡ 0) where
-    pub write-shape : Shape n s
-    write-shape = valid-of n s buffer k h z .shape
+    refuses : (j : ℕ) → First (writeConditions n s (length p)) j → (j ≡ 0 → ⊥) → (r : Answer) → r ≡ answer j 0 0 → WritePlan n s p r p
+    refuses j f d r er = rw er record { number = f; place = refl; value = sym (decided-old j _ 0 d); bytes = sym (decided-old j _ p d) }
 
-    module _ (b : ℕ) (eb : b ≡ setBits n s) where
-      pub write-few : b ≤ 2016
-      write-few = omega (arith, eb, valid-edges-le n s (valid-of n s buffer k h z))
+    pub write-stops : (k ≡ 0 → ⊥) → (r : Answer) → r ≡ answer k 0 0 → WritePlan n s p r p
+    write-stops d = refuses k (first-more (validConditions n s []) buffer k h d) d
 
+    module _ (z : k ≡ 0) (b : ℕ) (eb : b ≡ setBits n (s .words)) where
       pub write-short : length p < 8 * b → (r : Answer) → r ≡ answer 10 0 0 → WritePlan n s p r p
-      write-short l = refuses 10 (valid-passes n s buffer k h z 10 (inl (rw (← eb) l, refl))) (λ q. omega (arith, q))
+      write-short l = refuses 10 (valid-passed n s (write-valid z) buffer 10 (inl (rw (← eb) l, refl))) (λ q. omega (arith, q))
 
       module _ (l : 8 * b ≤ length p) where
         bytes : length (planOf n s) ≡ 8 * b
-        bytes = plan-length n s (valid-of n s buffer k h z) ∙ ap (λ (x : ℕ). 8 * x) (sym eb)
+        bytes = plan-length n s (write-valid z) ∙ ap (λ (x : ℕ). 8 * x) (sym eb)
 
         -- what `write_rows` asks
-        pub write-fits : Shape n s × (length (planOf n s) ≤ length p)
-        write-fits = (write-shape, omega (arith, bytes))
+        pub write-fits : Lends n s × (length (planOf n s) ≤ length p)
+        write-fits = (write-valid z .shape, omega (arith, bytes))
 
         pub write-whole : (q : List ℕ) → q ≡ written (planOf n s) p → (r : Answer) → r ≡ answer 0 0 (8 * b) → WritePlan n s p r q
         write-whole q eq r er = rw er record {
-          number = valid-passes n s buffer k h z 0 (inr (λ c. omega (arith, c, eb), refl));
+          number = valid-passed n s (write-valid z) buffer 0 (inr (λ c. omega (arith, c, eb), refl));
           place = refl;
           value = sym bytes;
           bytes = eq;

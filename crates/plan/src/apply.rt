@@ -4,6 +4,7 @@ ghost use Prim.Native.Nat.{_%_};
 ghost use lib.ListN.{length};
 ghost use Rattle.record.specs.Record.{recordBytes};
 ghost use Rattle.sheet_theory.specs.Layout.{Shape};
+ghost use Rattle.sheet_theory.specs.Lent.{lent};
 ghost use Rattle.plan_theory.specs.Records.{numberOn, leftBy};
 ghost use Rattle.plan_theory.specs.Calls.{appliedPlan};
 ghost use Rattle.plan.specs.Internal.{Reached, AppliedAll};
@@ -16,8 +17,8 @@ use sheet::Sheet;
 
 // One record: the number by which it is refused, or 0.
 fn apply_record(n: usize, sheet: &mut [u64], record: Record) -> u64
-    ensures number { λ r. ⌜ r ≡ numberOn n (now (sheet .entry)) «record» ⌝ }
-    ensures words { λ r. ⌜ now (sheet .exit) ≡ leftBy n (now (sheet .entry)) «record» ⌝ }
+    ensures number { λ r. ⌜ r ≡ numberOn n (lent (now (sheet .entry))) «record» ⌝ }
+    ensures words { λ r. ⌜ lent (now (sheet .exit)) ≡ leftBy n (lent (now (sheet .entry))) «record» ⌝ }
 {
     match record {
         Record::Insert(from, to) => edit::insert_edge(n, sheet, from, to).number,
@@ -29,7 +30,7 @@ fn apply_record(n: usize, sheet: &mut [u64], record: Record) -> u64
 // The records of a plan of whole records, up to the first that is refused: its number and its place, or 0 and 0.
 fn apply(n: usize, sheet: &mut [u64], plan: &[u8]) -> Answer
     requires { ⌜ length (now plan) % recordBytes ≡ 0 ⌝ }
-    ensures { λ r. ⌜ Reached (appliedPlan n (now (sheet .entry)) (now (plan .entry))) r (now (sheet .exit)) ⌝ }
+    ensures { λ r. ⌜ Reached (appliedPlan n (lent (now (sheet .entry))) (now (plan .entry))) r (lent (now (sheet .exit))) ⌝ }
 {
     let mut k = 0;
     loop {
@@ -48,10 +49,11 @@ fn apply(n: usize, sheet: &mut [u64], plan: &[u8]) -> Answer
     }
 }
 
-// The records of a plan of whole records, all of them or none: if one is refused, the words are put back.
-pub(crate) fn apply_all(n: usize, sheet: &mut [u64], plan: &[u8]) -> Answer
+// Internal: the records of a plan of whole records on a sheet of the right shape, all of them or none: if one is refused, the words are
+// put back.
+pub fn apply_core(n: usize, sheet: &mut [u64], plan: &[u8]) -> Answer
     requires { ⌜ (Shape n (now sheet)) × (length (now plan) % recordBytes ≡ 0) ⌝ }
-    ensures { λ r. ⌜ AppliedAll n (now (sheet .entry)) (now (plan .entry)) r (now (sheet .exit)) ⌝ }
+    ensures { λ r. ⌜ AppliedAll n (lent (now (sheet .entry))) (now (plan .entry)) r (lent (now (sheet .exit))) ⌝ }
 {
     let words = sheet::layout::word_count(n);
     let mut kept = [0u64; Sheet::WORDS];

@@ -4,6 +4,7 @@ ghost use Prim.Native.Nat.{_+_, _≤_, _<_};
 ghost use lib.ListN.{length};
 ghost use Rattle.text.specs.Text.{Put, written};
 ghost use Rattle.sheet_theory.specs.Layout.{mostVertices, Shape};
+ghost use Rattle.sheet_theory.specs.Lent.{lent};
 ghost use Rattle.record.specs.Record.{insertLetter, encoded};
 ghost use Rattle.plan_theory.specs.PlanOf.{rowBytes, planOf};
 
@@ -18,8 +19,8 @@ fn write_edge(i: usize, j: usize, plan: &mut [u8], at: usize) -> usize
 
 // The records of the edges from i.
 fn write_row(n: usize, sheet: &[u64], i: usize, plan: &mut [u8], at: usize) -> usize
-    requires { ⌜ (Shape n (now sheet)) × (i < n) × (at + length (rowBytes n (now sheet) i) ≤ length (now plan)) ⌝ }
-    ensures { λ r. ⌜ Put (now (plan .entry)) at (rowBytes n (now (sheet .entry)) i) (now (plan .exit)) r ⌝ }
+    requires { ⌜ (Shape n (now sheet)) × (i < n) × (at + length (rowBytes n (lent (now sheet)) i) ≤ length (now plan)) ⌝ }
+    ensures { λ r. ⌜ Put (now (plan .entry)) at (rowBytes n (lent (now (sheet .entry))) i) (now (plan .exit)) r ⌝ }
 {
     let mut place = at;
     let mut rest = sheet[i] & word::low_bits(n);
@@ -32,8 +33,8 @@ fn write_row(n: usize, sheet: &[u64], i: usize, plan: &mut [u8], at: usize) -> u
 
 // The records of all edges, in the first places.
 pub(crate) fn write_rows(n: usize, sheet: &[u64], plan: &mut [u8])
-    requires { ⌜ (Shape n (now sheet)) × (length (planOf n (now sheet)) ≤ length (now plan)) ⌝ }
-    ensures { λ r. ⌜ now (plan .exit) ≡ written (planOf n (now (sheet .entry))) (now (plan .entry)) ⌝ }
+    requires { ⌜ (Shape n (now sheet)) × (length (planOf n (lent (now sheet))) ≤ length (now plan)) ⌝ }
+    ensures { λ r. ⌜ now (plan .exit) ≡ written (planOf n (lent (now (sheet .entry)))) (now (plan .entry)) ⌝ }
 {
     let mut place = 0;
     let mut i = 0;

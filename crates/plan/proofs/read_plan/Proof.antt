@@ -5,17 +5,19 @@ use Rattle.plan.proofs.read_plan.Statement.{statement}
 use Rattle.plan.proofs.read_plan.Tie as tie
 
 returns : tie.Need-returns
-returns c = search read-stops
+returns c = read-stops _ _ _ _ (c .before .before .read-number .ensures) (c .before .if1 .taken) _ (c .refused .ensures)
 
 returns-2 : tie.Need-returns-2
-returns-2 c = search read-applied
+returns-2 c =
+    let at = c .before .before .before .before in
+    read-applied _ _ _ _ (at .before .read-number .ensures) (at .if1 .left) _ _ (c .before .before .apply-core .ensures)
 
-apply-all-requires : tie.Need-apply-all-requires
-apply-all-requires c κs =
-    let a = c .before .before .before .before .before .before .args in
-    read-ready (a .n) (a .sheet .now) (a .plan .now) _ (c .before .before .read-number .ensures) (c .before .if1 .left)
+apply-core-requires : tie.Need-apply-core-requires
+apply-core-requires c κs =
+    let plan = c .before .before .before .before .before .before .args .plan .now in
+    read-ready _ _ plan _ (c .before .before .read-number .ensures) (c .before .if1 .left)
 
 pub read-plan-spec : {M : Type 1} → statement M
 read-plan-spec =
     tie.close
-    (tie.spec (λ c κs. search needs) (λ c κs. search needs) (λ c. search needs) returns apply-all-requires (λ c. search needs) returns-2)
+    (tie.spec (λ c κs. search needs) (λ c κs. search needs) (λ c. search needs) returns apply-core-requires (λ c. search needs) returns-2)

@@ -12,7 +12,7 @@ returns-2 : tie.Need-returns-2
 returns-2 c =
     let else = c .before .before .before .before .before .before .before .before in
     let a = else .before .before .before .args in
-    printed-accepted (a .answer) (a .sheet .now) (a .out .now) _ _ (else .if1 .left)
+    printed-accepted (a .answer) _ (a .out .now) _ _ (else .if1 .left)
     (c .before .before .before .before .before .before .put-pipes .ensures) _ _ (c .before .before .put-rows .ensures) (omega arith)
 
 put-refused-requires : tie.Need-put-refused-requires

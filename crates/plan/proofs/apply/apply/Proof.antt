@@ -4,12 +4,13 @@ use Prim.Native.Nat.{_-_, _*_}
 use native.Mathlib.Omega.{arith}
 use borrow.Author.Needs.{needs}
 use lib.ListN.{length}
+use Rattle.sheet_theory.specs.Lent.{lent}
 use Rattle.plan.proofs.ApplyLaws.{Applying, applying-start, applying-end, applying-less, applying-refused, applying-more}
 use Rattle.plan.proofs.apply.apply.Statement.{statement}
 use Rattle.plan.proofs.apply.apply.Tie as tie
 
 abbrev Inv-loop : tie.InvT-loop
-Inv-loop n sheet₀ plan k₀ sheet k = (length sheet ≡ length sheet₀) × Applying n sheet₀ plan k sheet
+Inv-loop n sheet₀ plan k₀ sheet k = (length sheet ≡ length sheet₀) × Applying n (lent sheet₀) plan k (lent sheet)
 
 abbrev μ-loop : tie.MeasureT-loop
 μ-loop n sheet₀ plan k₀ sheet k = length plan - 8 * k

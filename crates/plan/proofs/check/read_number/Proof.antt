@@ -5,7 +5,9 @@ use Rattle.plan.proofs.check.read_number.Statement.{statement}
 use Rattle.plan.proofs.check.read_number.Tie as tie
 
 returns : tie.Need-returns
-returns c = search read-first
+returns c =
+    let plan = c .before .before .before .before .before .args .plan .now in
+    read-first _ _ plan _ _ (c .before .before .altering-sheet-number .ensures) (c .before .length-number .ensures) _ (c .first .ensures)
 
 pub read-number-spec : {M : Type 1} → statement M
 read-number-spec = tie.close (tie.spec (λ c κs. search needs) (λ c κs. search needs) (λ c κs. search needs) returns)

@@ -3,13 +3,14 @@
 use native.Mathlib.Omega.{arith}
 use borrow.Author.Tests.{eqb-true, eqb-false}
 use Rattle.word.proofs.CountLaws.{lowest-cleared-lt}
+use Rattle.sheet_theory.specs.Lent.{lent}
 use Rattle.sheet_theory.proofs.LayoutLaws.{rows-within}
 use Rattle.plan.proofs.WriteLaws.{Writing, writing-start, writing-room, writing-more, writing-done}
 use Rattle.plan.proofs.write.write_row.Statement.{statement}
 use Rattle.plan.proofs.write.write_row.Tie as tie
 
 abbrev Inv-loop : tie.InvT-loop
-Inv-loop n sheet i plan₀ at place₀ rest₀ plan place rest = Writing n sheet i plan₀ at rest plan place
+Inv-loop n sheet i plan₀ at place₀ rest₀ plan place rest = Writing n (lent sheet) i plan₀ at rest plan place
 
 abbrev μ-loop : tie.MeasureT-loop
 μ-loop n sheet i plan₀ at place₀ rest₀ plan place rest = rest

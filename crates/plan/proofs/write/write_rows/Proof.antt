@@ -3,12 +3,13 @@ use Prim.Native.Nat.{_-_}
 use native.Mathlib.Omega.{arith}
 use borrow.Author.Needs.{needs}
 use Rattle.text.proofs.TextLaws.{put-written, Pieces, pieces-start, pieces-room, pieces-more, pieces-done}
+use Rattle.sheet_theory.specs.Lent.{lent}
 use Rattle.plan_theory.specs.PlanOf.{rowBytes}
 use Rattle.plan.proofs.write.write_rows.Statement.{statement}
 use Rattle.plan.proofs.write.write_rows.Tie as tie
 
 abbrev Inv-loop : tie.InvT-loop
-Inv-loop n sheet plan₀ place₀ i₀ plan place i = Pieces plan₀ 0 (rowBytes n sheet) n i plan place
+Inv-loop n sheet plan₀ place₀ i₀ plan place i = Pieces plan₀ 0 (rowBytes n (lent sheet)) n i plan place
 
 abbrev μ-loop : tie.MeasureT-loop
 μ-loop n sheet plan₀ place₀ i₀ plan place i = n - i

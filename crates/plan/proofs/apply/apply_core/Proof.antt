@@ -1,10 +1,10 @@
--- `plan::apply::apply_all` meets its contract: the records are applied, or the words kept aside are put back. Assumes nothing.
+-- `plan::apply::apply_core` meets its contract: the records are applied, or the words kept aside are put back. Assumes nothing.
 use mathlib.Core.Path.{sym, _∙_}
 use native.Mathlib.Omega.{arith}
 use borrow.Author.Needs.{needs}
 use Rattle.plan.proofs.ApplyLaws.{sheet-long, all-refused, all-accepted}
-use Rattle.plan.proofs.apply.apply_all.Statement.{statement}
-use Rattle.plan.proofs.apply.apply_all.Tie as tie
+use Rattle.plan.proofs.apply.apply_core.Statement.{statement}
+use Rattle.plan.proofs.apply.apply_core.Tie as tie
 
 returns : tie.Need-returns
 returns c =
@@ -31,8 +31,8 @@ copy-words-requires-2 c κs =
     let l = sheet-long _ _ (start .pre .0) in
     (omega (arith, l), omega arith)
 
-pub apply-all-spec : {M : Type 1} → statement M
-apply-all-spec =
+pub apply-core-spec : {M : Type 1} → statement M
+apply-core-spec =
     tie.close
     (tie.spec (λ c κs. search needs) (λ c. search needs) copy-words-requires (λ c κs. search needs) (λ c. search needs) copy-words-requires-2 (λ c. search needs) returns
     (λ c κs. search needs) (λ c κs. search needs) (λ c. search needs) returns-2)
