@@ -18,7 +18,8 @@ use Rattle.graph.proofs.Walks.{rising-acyclic, path-cong, cycle-cong}
 use Rattle.graph.proofs.Counting.{walkList, walkList-distinct, path-listed-iff}
 use Rattle.answer.specs.Table.{_gives_, First, firstTrue, Reflects}
 use Rattle.answer.specs.Answers.{answer, decided}
-use Rattle.sheet_theory.specs.Layout.{edgeAt, multAt}
+use Rattle.sheet_theory.specs.Lent.{Lent, multAt}
+use Rattle.sheet_theory.specs.Layout.{edgeAt}
 use Rattle.sheet_theory.specs.Calls.{pathCountAnswer}
 use Rattle.answer.proofs.TableLaws.{reflects-false, reflects-le, reflects-eq, first-true, first-rest, first-last, first-accepts}
 use Rattle.answer.proofs.AnswerLaws.{answer-ext}
@@ -68,22 +69,22 @@ rises x y true p q = ltb-true x y (go (ltb x y) q)
     go false e = absurd (omega arith)
 rises x y false p q = absurd (omega arith)
 
-module _ (n : ℕ) (l : List (ℕ × ℕ)) (s : List ℕ) (o : SheetOf n l s) where
+module _ (n : ℕ) (l : List (ℕ × ℕ)) (s : Lent) (o : SheetOf n l s) where
   -- ---- its paths
 
   known-acyclic : Acyclic n (edgesOf l)
-  known-acyclic c = o .valid .acyclic (cycle-cong n (edgesOf l) (edgeAt s) (λ i j hi hj. sym (o .edges i j hi hj)) c)
+  known-acyclic c = o .valid .acyclic (cycle-cong n (edgesOf l) (edgeAt (s .words)) (λ i j hi hj. sym (o .edges i j hi hj)) c)
 
   -- the paths from i to j are those of a list, once it is known to have them all
   module _ (i j : ℕ) (hi : i < n) (p : List (List ℕ)) (e : walkList n (edgesOf l) n i j ≡ p) where
-    pub known-lists : (x : List ℕ) → IsPath n (edgeAt s) i j x ↔ (x isIn p)
+    pub known-lists : (x : List ℕ) → IsPath n (edgeAt (s .words)) i j x ↔ (x isIn p)
     known-lists x =
         let r = path-listed-iff n (edgesOf l) known-acyclic i j hi x in (
-          λ q. subst (λ t. x isIn t) e (r .0 (path-cong n (edgeAt s) (edgesOf l) (o .edges) i j x q)),
-          λ m. path-cong n (edgesOf l) (edgeAt s) (λ a b ha hb. sym (o .edges a b ha hb)) i j x (r .1 (subst (λ t. x isIn t) (sym e) m)),
+          λ q. subst (λ t. x isIn t) e (r .0 (path-cong n (edgeAt (s .words)) (edgesOf l) (o .edges) i j x q)),
+          λ m. path-cong n (edgesOf l) (edgeAt (s .words)) (λ a b ha hb. sym (o .edges a b ha hb)) i j x (r .1 (subst (λ t. x isIn t) (sym e) m)),
         )
 
-    pub known-paths : Exactly (IsPath n (edgeAt s) i j) (length p)
+    pub known-paths : Exactly (IsPath n (edgeAt (s .words)) i j) (length p)
     known-paths = record {
       list = p;
       once = subst Distinct e (walkList-distinct n (edgesOf l) n i j);
@@ -93,7 +94,7 @@ module _ (n : ℕ) (l : List (ℕ × ℕ)) (s : List ℕ) (o : SheetOf n l s) wh
     }
 
   -- so their number is what `path_count` answers
-  pub known-count : (i j : ℕ) → i < n → j < n → (k : ℕ) → Exactly (IsPath n (edgeAt s) i j) k → pathCountAnswer n s i j ≡ answer 0 0 k
+  pub known-count : (i j : ℕ) → i < n → j < n → (k : ℕ) → Exactly (IsPath n (edgeAt (s .words)) i j) k → pathCountAnswer n s i j ≡ answer 0 0 k
   known-count i j hi hj k x =
       let r = path-count-exact n s i j (o .valid) hi hj in answer-ext _ _ (r .0) refl (exactly-only (r .1) x)
 
@@ -180,7 +181,7 @@ module _ (n : ℕ) (l : List (ℕ × ℕ)) (s : List ℕ) (o : SheetOf n l s) wh
     known-deletes becomes there = leaves false g ok m becomes (first-rest (none-named g (λ x. eqb x 0) (λ x. x ≡ 0) (λ x. reflects-eq x 0) there) (first-effect false g ok m becomes))
 
 -- there is one sheet of these edges
-pub known-only : (n : ℕ) (l : List (ℕ × ℕ)) (s t : List ℕ) → SheetOf n l s → SheetOf n l t → s ≡ t
+pub known-only : (n : ℕ) (l : List (ℕ × ℕ)) (s t : Lent) → SheetOf n l s → SheetOf n l t → s ≡ t
 known-only n l s t o p =
-    fresh-only n (edgeAt s) (edgeAt t) s t (λ i j hi hj. o .edges i j hi hj ∙ sym (p .edges i j hi hj))
+    fresh-only n (edgeAt (s .words)) (edgeAt (t .words)) s t (λ i j hi hj. o .edges i j hi hj ∙ sym (p .edges i j hi hj))
     (valid-modelled (o .valid) .fresh) (valid-modelled (p .valid) .fresh)

@@ -17,11 +17,15 @@ use Rattle.graph.proofs.Lists.{when, each, exactly-only}
 use Rattle.graph.proofs.Counting.{walkList, exactly-self}
 use Rattle.answer.specs.Table.{firstTrue}
 use Rattle.answer.specs.Answers.{answer}
-use Rattle.sheet_theory.specs.Layout.{edgeAt, emptySheet}
+use Rattle.sheet_theory.specs.Lent.{Lent, emptyLent}
+use Rattle.sheet_theory.specs.Layout.{edgeAt}
+use Rattle.sheet_theory.proofs.ShapeLaws.{shape-passed}
 use Rattle.answer.proofs.AnswerLaws.{answer-ext}
 use Rattle.sheet_theory.proofs.Meaning.{empty-valid, empty-edge}
 use Rattle.edit_theory.specs.Edit.{one, at, insertEdge, insertEdgesAt}
-use Rattle.edit_theory.specs.Outcome.{some, someEdge, editAnswer, editAfter}
+use Rattle.edit_theory.specs.Book.{opened}
+use Rattle.edit_theory.specs.Table.{mostParallel, asked}
+use Rattle.edit_theory.specs.Outcome.{some, someEdge, editGrounds, editAnswer, editAfter}
 use Rattle.edit_theory.proofs.Refusals.{edit-table, edit-refused}
 use Rattle.query_theory.specs.Before.{Before}
 use Rattle.query_theory.specs.ReachesWithout.{reachesWithoutAnswer}
@@ -60,24 +64,24 @@ wider-paths-0-3 = refl
 
 -- ---- D
 
-module _ (d : List ℕ) (o : SheetOf 5 diamond d) where
-  lists : (p : List ℕ) → IsPath 5 (edgeAt d) 0 3 p ↔ (p isIn (upper ∷ lower ∷ []))
+module _ (d : Lent) (o : SheetOf 5 diamond d) where
+  lists : (p : List ℕ) → IsPath 5 (edgeAt (d .words)) 0 3 p ↔ (p isIn (upper ∷ lower ∷ []))
   lists = known-lists 5 diamond d o 0 3 (omega arith) (upper ∷ lower ∷ []) paths-0-3
 
-  two-paths : Exactly (IsPath 5 (edgeAt d) 0 3) 2
+  two-paths : Exactly (IsPath 5 (edgeAt (d .words)) 0 3) 2
   two-paths = known-paths 5 diamond d o 0 3 (omega arith) (upper ∷ lower ∷ []) paths-0-3
 
-  path-upper : IsPath 5 (edgeAt d) 0 3 upper
+  path-upper : IsPath 5 (edgeAt (d .words)) 0 3 upper
   path-upper = lists upper .1 (inl refl)
 
-  path-lower : IsPath 5 (edgeAt d) 0 3 lower
+  path-lower : IsPath 5 (edgeAt (d .words)) 0 3 lower
   path-lower = lists lower .1 (inr (inl refl))
 
   -- the upper is before the lower: no path is before the upper, and one before the lower
   upper-first : Before upper lower
   upper-first = inr (refl, inl (omega arith))
 
-  before-upper : Exactly (λ p. IsPath 5 (edgeAt d) 0 3 p × Before p upper) 0
+  before-upper : Exactly (λ p. IsPath 5 (edgeAt (d .words)) 0 3 p × Before p upper) 0
   before-upper = record { list = []; once = tt; all = λ p q. go p (lists p .0 (q .0)) (q .1); only = λ p m. absurd m; many = refl }
     where
       go : (p : List ℕ) → p isIn (upper ∷ lower ∷ []) → Before p upper → ⊥
@@ -85,7 +89,7 @@ module _ (d : List ℕ) (o : SheetOf 5 diamond d) where
       go p (inr (inl e)) b = before-irrefl lower (before-trans lower upper lower (rw e at b) upper-first)
       go p (inr (inr m)) b = m
 
-  before-lower : Exactly (λ p. IsPath 5 (edgeAt d) 0 3 p × Before p lower) 1
+  before-lower : Exactly (λ p. IsPath 5 (edgeAt (d .words)) 0 3 p × Before p lower) 1
   before-lower = record {
     list = upper ∷ [];
     once = ((λ m. m), tt);
@@ -103,7 +107,7 @@ module _ (d : List ℕ) (o : SheetOf 5 diamond d) where
 
   module _ (buffer : List ℕ) (room : 5 ≤ length buffer) where
     -- a path that has k paths before it is path number k, and its number is k
-    numbered : (p : List ℕ) (k : ℕ) → IsPath 5 (edgeAt d) 0 3 p → Exactly (λ q. IsPath 5 (edgeAt d) 0 3 q × Before q p) k
+    numbered : (p : List ℕ) (k : ℕ) → IsPath 5 (edgeAt (d .words)) 0 3 p → Exactly (λ q. IsPath 5 (edgeAt (d .words)) 0 3 q × Before q p) k
         → PathIs 5 d 0 3 k p buffer × (rankAnswer 5 d p ≡ answer 0 0 k)
     numbered p k h x =
         let r = rank-exact 5 d (o .valid) 0 3 p h in
@@ -116,7 +120,7 @@ module _ (d : List ℕ) (o : SheetOf 5 diamond d) where
         let r = unrank-refused 5 d 0 3 2 buffer (λ z. omega (arith, e, z)) in
         (r .0 ∙ ap (λ k. answer k 0 0) e, r .1)
 
-  edge-0-1 : 0 < edgeAt d 0 1
+  edge-0-1 : 0 < edgeAt (d .words) 0 1
   edge-0-1 = rw (o .edges 0 1 (omega arith) (omega arith)) (omega arith)
 
   other-way : reachesWithoutAnswer 5 d 0 3 0 1 ≡ answer 0 0 1
@@ -157,7 +161,7 @@ module _ (d : List ℕ) (o : SheetOf 5 diamond d) where
   unfolding firstTrue some someEdge every same sum
   laid = known-inserts 5 diamond d o (at 4 (2 ^ 1) (2 ^ 3)) refl wider refl refl refl (λ i. cond (eqb i 3) 5 i) refl
 
-  three-paths : Exactly (IsPath 5 (edgeAt (editAfter insertion d)) 0 3) 3
+  three-paths : Exactly (IsPath 5 (edgeAt (editAfter insertion d .words)) 0 3) 3
   three-paths = known-paths 5 wider (editAfter insertion d) (laid .1) 0 3 (omega arith) _ wider-paths-0-3
 
   lifted : (editAnswer deletion (editAfter insertion d) ≡ answer 0 0 4) × SheetOf 5 diamond (editAfter deletion (editAfter insertion d))
@@ -166,27 +170,20 @@ module _ (d : List ℕ) (o : SheetOf 5 diamond d) where
 
 -- ---- one vertex alone
 
-module _ (e : List ℕ) (o : SheetOf 1 [] e) where
+module _ (e : Lent) (o : SheetOf 1 [] e) where
   loop : EditRefused (insertEdge 1 0 0) e 5
   loop =
+      let rest = asked (insertEdge 1 0 0) mostParallel (opened 1 e) (editGrounds (insertEdge 1 0 0) e) in
       let z = edit-table (insertEdge 1 0 0) e 5 .1
-      (inr (
-        λ c. elim c [ inl l ↦ omega arith | inr l ↦ omega arith ],
-        inr (
-          λ c. c (o .valid .shape .long),
-          inr (
-            λ c. elim c [ inl l ↦ omega arith | inr l ↦ omega arith ],
-            inl ((0, omega arith, 0, omega arith, refl, refl), refl),
-          ),
-        ),
-      )) in
+      (shape-passed 1 e (o .valid .shape) rest 5
+      (inr (λ c. elim c [ inl l ↦ omega arith | inr l ↦ omega arith ], inl ((0, omega arith, 0, omega arith, refl, refl), refl)))) in
       let r = edit-refused (insertEdge 1 0 0) e (λ q. omega (arith, z, q)) in
       (r .0 ∙ ap (λ k. answer k 0 0) z, r .1)
 
 -- THE THEOREM: of every valid sheet of one vertex without an edge, of every valid sheet that has D's edges, and of every buffer of 5 bytes or more
-pub starred : (e d buffer : List ℕ) → SheetOf 1 [] e → SheetOf 5 diamond d → 5 ≤ length buffer → Starred e d buffer
+pub starred : (e d : Lent) (buffer : List ℕ) → SheetOf 1 [] e → SheetOf 5 diamond d → 5 ≤ length buffer → Starred e d buffer
 starred e d buffer oe od room = record {
-  alone = known-count 1 [] e oe 0 0 (omega arith) (omega arith) 1 (exactly-self 1 (edgeAt e) 0 (omega arith));
+  alone = known-count 1 [] e oe 0 0 (omega arith) (omega arith) 1 (exactly-self 1 (edgeAt (e .words)) 0 (omega arith));
   loop = loop e oe;
   count = known-count 5 diamond d od 0 3 (omega arith) (omega arith) 2 (two-paths d od);
   path0 = numbered d od buffer room upper 0 (path-upper d od) (before-upper d od) .0;
@@ -205,10 +202,10 @@ starred e d buffer oe od room = record {
 }
 
 -- and there are such sheets: the empty one, and D's by two edits of an empty one
-pub starred-there : SheetOf 1 [] (emptySheet 1) × SheetOf 5 diamond (editAfter (insertEdgesAt 5 3 6 0) (editAfter (insertEdgesAt 5 0 0 6) (emptySheet 5)))
+pub starred-there : SheetOf 1 [] (emptyLent 1) × SheetOf 5 diamond (editAfter (insertEdgesAt 5 3 6 0) (editAfter (insertEdgesAt 5 0 0 6) (emptyLent 5)))
 unfolding firstTrue some someEdge every same
 starred-there =
-    let none : (n : ℕ) → 1 ≤ n → n ≤ 64 → SheetOf n [] (emptySheet n) = λ n low high. record { valid = empty-valid n low high; edges = empty-edge n } in
+    let none : (n : ℕ) → 1 ≤ n → n ≤ 64 → SheetOf n [] (emptyLent n) = λ n low high. record { valid = empty-valid n low high; edges = empty-edge n } in
     let h : ℕ → ℕ = λ i. i in
-    let first = known-inserts 5 [] (emptySheet 5) (none 5 (omega arith) (omega arith)) (at 0 0 6) refl ((0, 1) ∷ (0, 2) ∷ []) refl refl refl h refl in
+    let first = known-inserts 5 [] (emptyLent 5) (none 5 (omega arith) (omega arith)) (at 0 0 6) refl ((0, 1) ∷ (0, 2) ∷ []) refl refl refl h refl in
     (none 1 (omega arith) (omega arith), known-inserts 5 ((0, 1) ∷ (0, 2) ∷ []) _ (first .1) (at 3 6 0) refl diamond refl refl refl h refl .1)

@@ -9,6 +9,7 @@ use Rattle.graph.specs.Graph.{Exactly, IsPath, Acyclic}
 use Rattle.answer.specs.declared.Answer.{Answer}
 use Rattle.answer.specs.Answers.{answer}
 use Rattle.sheet_theory.specs.Layout.{mostVertices}
+use Rattle.sheet_theory.specs.Lent.{Lent}
 use Rattle.sheet_theory.specs.Conditions.{BadVertices}
 use Rattle.sheet_theory.specs.Calls.{emptyAnswer, emptyAfter, pathCountAnswer}
 use Rattle.recount_theory.specs.Calls.{Recount, Validate}
@@ -21,18 +22,18 @@ use Rattle.plan_theory.specs.Calls.{ReadPlan, WritePlan}
 
 -- every call is refused by 1, whatever the words, the bytes and the other arguments, and changes no word and no byte
 pub record EveryCallRefused (n : ℕ) : Type 0 where
-  pub empty : (s : List ℕ) → (emptyAnswer n s ≡ answer 1 0 0) × (emptyAfter n s ≡ s)
-  pub pathCount : (s : List ℕ) (i j : ℕ) → pathCountAnswer n s i j ≡ answer 1 0 0
-  pub recount : (s : List ℕ) (r : Answer) (t : List ℕ) → Recount n s r t → (r ≡ answer 1 0 0) × (t ≡ s)
-  pub validate : (s : List ℕ) (r : Answer) → Validate n s r → r ≡ answer 1 0 0
-  pub edits : (inserts : Bool) (g : Edges) (s : List ℕ) →
+  pub empty : (s : Lent) → (emptyAnswer n s ≡ answer 1 0 0) × (emptyAfter n s ≡ s)
+  pub pathCount : (s : Lent) (i j : ℕ) → pathCountAnswer n s i j ≡ answer 1 0 0
+  pub recount : (s : Lent) (r : Answer) (t : Lent) → Recount n s r t → (r ≡ answer 1 0 0) × (t ≡ s)
+  pub validate : (s : Lent) (r : Answer) → Validate n s r → r ≡ answer 1 0 0
+  pub edits : (inserts : Bool) (g : Edges) (s : Lent) →
       let e : Edit = record { inserts = inserts; vertices = n; edges = g } in
       (editAnswer e s ≡ answer 1 0 0) × (editAfter e s ≡ s)
-  pub reachesWithout : (s : List ℕ) (i j u v : ℕ) → reachesWithoutAnswer n s i j u v ≡ answer 1 0 0
-  pub unrank : (s : List ℕ) (i j k : ℕ) (b : List ℕ) → (unrankAnswer n s i j k (length b) ≡ answer 1 0 0) × (unrankAfter n s i j k b ≡ b)
-  pub rank : (s p : List ℕ) → rankAnswer n s p ≡ answer 1 0 0
-  pub readPlan : (s p : List ℕ) (r : Answer) (t : List ℕ) → ReadPlan n s p r t → (r ≡ answer 1 0 0) × (t ≡ s)
-  pub writePlan : (s b : List ℕ) (r : Answer) (q : List ℕ) → WritePlan n s b r q → (r ≡ answer 1 0 0) × (q ≡ b)
+  pub reachesWithout : (s : Lent) (i j u v : ℕ) → reachesWithoutAnswer n s i j u v ≡ answer 1 0 0
+  pub unrank : (s : Lent) (i j k : ℕ) (b : List ℕ) → (unrankAnswer n s i j k (length b) ≡ answer 1 0 0) × (unrankAfter n s i j k b ≡ b)
+  pub rank : (s : Lent) (p : List ℕ) → rankAnswer n s p ≡ answer 1 0 0
+  pub readPlan : (s : Lent) (p : List ℕ) (r : Answer) (t : Lent) → ReadPlan n s p r t → (r ≡ answer 1 0 0) × (t ≡ s)
+  pub writePlan : (s : Lent) (b : List ℕ) (r : Answer) (q : List ℕ) → WritePlan n s b r q → (r ≡ answer 1 0 0) × (q ≡ b)
 
 pub record EveryN (n : ℕ) : Type 0 where
   -- n is not 1 to 64

@@ -4,7 +4,7 @@ use mathlib.Core.Bool.{Bool, false, _||_}
 use mathlib.Core.List.{List, [], _∷_}
 use Prim.Native.Nat.{ℕ, _<_}
 use Rattle.graph.specs.Uses.{oneEdge}
-use Rattle.sheet_theory.specs.Layout.{edgeAt}
+use Rattle.sheet_theory.specs.Lent.{Lent, multAt}
 use Rattle.sheet_theory.specs.Valid.{Valid}
 use Rattle.edit_theory.specs.Edit.{oneIf}
 
@@ -18,9 +18,9 @@ abbrev pub edgesOf : List (ℕ × ℕ) → ℕ → ℕ → ℕ
 edgesOf l i j = oneIf (listed l i j)
 
 -- s is any valid sheet of n vertices whose row bits are the edges l
-pub record SheetOf (n : ℕ) (l : List (ℕ × ℕ)) (s : List ℕ) : Type 0 where
+pub record SheetOf (n : ℕ) (l : List (ℕ × ℕ)) (s : Lent) : Type 0 where
   pub valid : Valid n s
-  pub edges : (i j : ℕ) → i < n → j < n → edgeAt s i j ≡ edgesOf l i j
+  pub edges : (i j : ℕ) → i < n → j < n → multAt n s i j ≡ edgesOf l i j
 
 -- the edges of D, the orchard of document 01's listing
 abbrev pub diamond : List (ℕ × ℕ)

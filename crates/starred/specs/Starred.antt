@@ -5,6 +5,7 @@ use Prim.Native.Nat.{ℕ, _^_}
 use lib.ListN.{length}
 use Rattle.text.specs.Text.{written}
 use Rattle.answer.specs.Answers.{answer}
+use Rattle.sheet_theory.specs.Lent.{Lent}
 use Rattle.sheet_theory.specs.Calls.{pathCountAnswer}
 use Rattle.edit_theory.specs.Edit.{Edit, insertEdge, insertEdgesAt, deleteEdgesAt}
 use Rattle.edit_theory.specs.Outcome.{editAnswer, editAfter}
@@ -13,12 +14,12 @@ use Rattle.query_theory.specs.Unrank.{unrankAnswer, unrankAfter}
 use Rattle.query_theory.specs.Rank.{rankAnswer}
 
 -- the edit is refused by k, and no word is changed
-abbrev pub EditRefused : Edit → List ℕ → ℕ → Type 0
+abbrev pub EditRefused : Edit → Lent → ℕ → Type 0
 EditRefused e s k = (editAnswer e s ≡ answer k 0 0) × (editAfter e s ≡ s)
 
 -- the path from i to j of number k on the sheet s of n vertices is p: it is written to the first bytes of the buffer, and the value says
 -- how many they are
-abbrev pub PathIs : ℕ → List ℕ → ℕ → ℕ → ℕ → List ℕ → List ℕ → Type 0
+abbrev pub PathIs : ℕ → Lent → ℕ → ℕ → ℕ → List ℕ → List ℕ → Type 0
 PathIs n s i j k p buffer = (unrankAnswer n s i j k (length buffer) ≡ answer 0 0 (length p)) × (unrankAfter n s i j k buffer ≡ written p buffer)
 
 -- the edges at 4 from 1 and to 3 (document 01: at 4, A = {1}, B = {3}), laid and lifted
@@ -29,7 +30,7 @@ abbrev pub deletion : Edit
 deletion = deleteEdgesAt 5 4 (2 ^ 1) (2 ^ 3)
 
 -- of e, the empty sheet of one vertex; of d, the sheet of D; and of a buffer for a path
-pub record Starred (e d buffer : List ℕ) : Type 0 where
+pub record Starred (e d : Lent) (buffer : List ℕ) : Type 0 where
   -- n = 1, empty: count(0, 0) is 1
   pub alone : pathCountAnswer 1 e 0 0 ≡ answer 0 0 1
   -- insertion 0 to 0: 5
