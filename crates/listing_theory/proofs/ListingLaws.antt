@@ -77,7 +77,7 @@ listing-refused plan d = decided-old (listedAnswer plan .number) _ _ d
 -- of one that is too long: 0 and 13, whatever it consists of
 pub listing-long : (plan : List ℕ) → mostBytes < length plan → listing plan ≡ refusedLine 0 13
 unfolding listing
-listing-long plan h = rw (first-only _ _ 13 (length-first plan) (length-long plan h))
+listing-long plan h = rw (first-only (BadPlan plan gives 13 ∷ []) (lengthNumber (length plan)) 13 (length-first plan) (length-long plan h))
 
 -- so a program that reads so many bytes lists the whole input
 pub listing-cut : (input : List ℕ) → listing (take inputBytes input) ≡ listing input
