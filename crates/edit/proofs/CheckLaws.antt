@@ -25,7 +25,7 @@ use Rattle.sheet_theory.proofs.StrayLaws.{stray-iff}
 use Rattle.sheet.proofs.RowLaws.{base-count}
 use Rattle.edit_theory.specs.Edit.{at, oneIf}
 use Rattle.edit_theory.specs.Table.{SomeEdge, SomeOf, argued, mostParallel}
-use Rattle.edit.specs.Internal.{effectsOn, RefusedBits, Meets}
+use Rattle.edit.specs.Internal.{EditNumber, RefusedBits, Meets}
 use Rattle.edit_theory.proofs.TestLaws.{named-of, named-into, named-out}
 
 -- ---- masks_number
@@ -142,8 +142,8 @@ module _ (n : ℕ) (s : List ℕ) (v a b : ℕ) (t : Bool) (p : Reflects t (Meet
 -- ---- edit_number
 
 module _ (n : ℕ) (s : Lent) (v a b : ℕ) (inserts : Bool) where
-  abbrev edges : Conditions
-  edges = effectsOn inserts n s v a b
+  abbrev Gives : ℕ → Type 0
+  Gives k = EditNumber inserts n s v a b k
 
   -- an edge to be refused, where x is 1 or 0
   abbrev Clash : ℕ → Type 0
@@ -151,22 +151,22 @@ module _ (n : ℕ) (s : Lent) (v a b : ℕ) (inserts : Bool) where
 
   -- a deletion: t says whether there is an edge that is absent
   module _ (e : inserts ≡ false) (t : Bool) (p : Reflects t (Clash 0)) where
-    pub delete-absent : t ≡ true → First edges 7
-    unfolding effectsOn
+    pub delete-absent : t ≡ true → Gives 7
+    unfolding EditNumber
     delete-absent f = rw e (inl (p .holds f, refl))
 
-    pub delete-good : t ≡ false → First edges 0
-    unfolding effectsOn
+    pub delete-good : t ≡ false → Gives 0
+    unfolding EditNumber
     delete-good f = rw e (inr (reflects-false p .0 f, refl))
 
   -- an insertion: t and u say whether v is a predecessor or a successor of itself
   module _ (e : inserts ≡ true) (h : v < n) where
-    pub insert-into : (t : Bool) → t ≡ hasBit a v → t ≡ true → First edges 5
-    unfolding effectsOn
+    pub insert-into : (t : Bool) → t ≡ hasBit a v → t ≡ true → Gives 5
+    unfolding EditNumber
     insert-into t et f = rw e (inl ((v, h, v, h, named-into v a b v (has-true a v t et f), refl), refl))
 
-    pub insert-out : (u : Bool) → u ≡ hasBit b v → u ≡ true → First edges 5
-    unfolding effectsOn
+    pub insert-out : (u : Bool) → u ≡ hasBit b v → u ≡ true → Gives 5
+    unfolding EditNumber
     insert-out u eu f = rw e (inl ((v, h, v, h, named-out v a b v (has-true b v u eu f), refl), refl))
 
     -- neither; w says whether there is an edge that is present
@@ -184,16 +184,16 @@ module _ (n : ℕ) (s : Lent) (v a b : ℕ) (inserts : Bool) where
           reflects-iff (λ c. (c .0, c .1, c .2, c .3, c .4, omega (arith, c .5)))
           (λ c. (c .0, c .1, c .2, c .3, c .4, omega (arith, c .5, bit-lt (rowAt (s .words) (c .0)) (c .2)))) p
 
-      pub insert-present : w ≡ true → First edges 6
-      unfolding effectsOn
+      pub insert-present : w ≡ true → Gives 6
+      unfolding EditNumber
       insert-present k = rw e (inr (no-loop, inl (present .holds k, refl)))
 
       -- no edge is present; r says whether a cycle would close
       module _ (k : w ≡ false) (r : Bool) (q : Reflects r (Closes n (countAt n (s .words)) v (bit a) (bit b))) where
-        pub insert-cycle : r ≡ true → First edges 8
-        unfolding effectsOn
+        pub insert-cycle : r ≡ true → Gives 8
+        unfolding EditNumber
         insert-cycle z = rw e (inr (no-loop, inr (reflects-false present .0 k, inl (q .holds z, refl))))
 
-        pub insert-good : r ≡ false → First edges 0
-        unfolding effectsOn
+        pub insert-good : r ≡ false → Gives 0
+        unfolding EditNumber
         insert-good z = rw e (inr (no-loop, inr (reflects-false present .0 k, inr (reflects-false q .0 z, refl))))

@@ -8,7 +8,7 @@ use native.Mathlib.Omega.{arith}
 use lib.ListN.{length}
 use Rattle.word.proofs.MaskLaws.{one-shl}
 use Rattle.answer.specs.declared.Answer.{Answer}
-use Rattle.answer.specs.Table.{Conditions, First}
+use Rattle.answer.specs.Table.{First}
 use Rattle.answer.specs.Answers.{answer, decided, answered}
 use Rattle.sheet_theory.specs.Layout.{size, setBits}
 use Rattle.sheet_theory.specs.Lent.{Lent, lent, Lends}
@@ -19,10 +19,10 @@ use Rattle.sheet_theory.proofs.ShapeLaws.{shape-refused, shape-of, shape-passed
 use Rattle.sheet_theory.proofs.LayoutLaws.{length-redone, row-redone, count-redone, rest-redone, redone-ext}
 use Rattle.edit_theory.specs.Edit.{Edges, one, at, Edit, edgeEdit, edgesEdit, vertexOf, predecessorsOf, successorsOf}
 use Rattle.edit_theory.specs.Book.{opened}
-use Rattle.edit_theory.specs.Table.{argued, mostParallel, effects}
+use Rattle.edit_theory.specs.Table.{argued, mostParallel, effects, asked}
 use Rattle.edit_theory.specs.Outcome.{editedRow, edited, editGrounds, editConditions, editNumber, editWords, editAnswer, editAfter}
 use Rattle.edit_counts.specs.Internal.{Ready, countsEdited}
-use Rattle.edit.specs.Internal.{askedOn, effectsOn, Made, Edited, rowsEdited}
+use Rattle.edit.specs.Internal.{AskedNumber, EditNumber, Written, Made, Edited, rowsEdited}
 use Rattle.edit_theory.proofs.ConditionLaws.{argued-refused, argued-passed, argued-past}
 use Rattle.edit_theory.proofs.Refusals.{edit-first}
 
@@ -43,37 +43,37 @@ counts-rows inserts n s v a b long =
     same : length t ≡ length s
     same = length-redone n _ _ s
 
+-- the way out of `write_edit`: u is the sheet once the counts are edited, w once the rows are
+pub edit-written : (inserts : Bool) (n : ℕ) (s : List ℕ) (v a b : ℕ) → Ready n s v a b → (u w : List ℕ) → u ≡ countsEdited inserts n s v a b
+    → w ≡ rowsEdited inserts n u v a b → (x : ℕ) → x ≡ setBits n w → Written inserts n s v a b x w
+edit-written inserts n s v a b h u w eu ew x ex =
+    let e : w ≡ edited inserts n s v a b =
+    ew ∙ ap (λ (t : List ℕ). rowsEdited inserts n t v a b) eu ∙ counts-rows inserts n s v a b (h .shape .long) in
+    record { words = e; value = ex ∙ ap (setBits n) e }
+
 -- ---- made or not, by the number k that the checks gave
 
-module _ (cs : Conditions) (e : Edit) (s : Lent) (k : ℕ) (f : First cs k) (r : Answer) where
-  made-refused : (k ≡ 0 → ⊥) → r ≡ answer k 0 0 → Made cs e s r s
-  made-refused d er = rw er (record { number = f; answers = sym (answered-not k _ d); leaves = sym (decided-old k _ s d) })
+made-refused : (Number : ℕ → Type 0) (e : Edit) (s : Lent) (k : ℕ) → Number k → (r : Answer) → (k ≡ 0 → ⊥) → r ≡ answer k 0 0 → Made Number e s r s
+made-refused Number e s k f r d er = rw er (record { number = f; answers = sym (answered-not k _ d); leaves = sym (decided-old k _ s d) })
 
-  made-accepted : (w : List ℕ) (x : ℕ) → k ≡ 0 → w ≡ editWords e s → x ≡ setBits (e .vertices) w → r ≡ answer 0 0 x → Made cs e s r (lent w)
-  made-accepted w x z ew ex er =
-      rw er (record { number = rw z at f; answers = ap (answer 0 0) (ex ∙ ap (setBits (e .vertices)) ew); leaves = ap lent ew })
-
--- the ways out of `edit_at`: u is the sheet once the counts are edited, w once the rows are
-module _ (inserts : Bool) (n : ℕ) (s : Lent) (v a b k : ℕ) (f : First (effectsOn inserts n s v a b) k) (r : Answer) where
+-- the ways out of `edit_at`
+module _ (inserts : Bool) (n : ℕ) (s : Lent) (v a b k : ℕ) (f : EditNumber inserts n s v a b k) (r : Answer) where
   abbrev Done : Lent → Type 0
-  Done t = Made (effectsOn inserts n s v a b) (edgesEdit inserts n v a b) s r t
+  Done t = Made (EditNumber inserts n s v a b) (edgesEdit inserts n v a b) s r t
 
   pub effect-refused : (k ≡ 0 → ⊥) → r ≡ answer k 0 0 → Done s
-  effect-refused = made-refused (effectsOn inserts n s v a b) (edgesEdit inserts n v a b) s k f r
+  effect-refused = made-refused (EditNumber inserts n s v a b) (edgesEdit inserts n v a b) s k f r
 
-  pub effect-made : k ≡ 0 → (u w : List ℕ) → Ready n (s .words) v a b → u ≡ countsEdited inserts n (s .words) v a b
-      → w ≡ rowsEdited inserts n u v a b → (x : ℕ) → x ≡ setBits n w → r ≡ answer 0 0 x → Done (lent w)
-  effect-made z u w h eu ew x =
-      made-accepted (effectsOn inserts n s v a b) (edgesEdit inserts n v a b) s k f r w x z
-      (ew ∙ ap (λ (t : List ℕ). rowsEdited inserts n t v a b) eu ∙ counts-rows inserts n (s .words) v a b (h .shape .long))
+  pub effect-made : (w : List ℕ) (x : ℕ) → k ≡ 0 → Written inserts n (s .words) v a b x w → r ≡ answer 0 0 x → Done (lent w)
+  effect-made w x z h er = rw er (record { number = rw z at f; answers = ap (answer 0 0) (h .value); leaves = ap lent (h .words) })
 
 -- ---- the cores: k is the number that the arguments gave
 
 -- refused by an argument
 pub core-refused : (e : Edit) (s : Lent) (k : ℕ) → First (argued (e .vertices) (e .edges) []) k → (r : Answer) → (k ≡ 0 → ⊥) → r ≡ answer k 0 0
     → Edited e s r s
-unfolding askedOn
-core-refused e s k f r d = made-refused (askedOn e s) e s k (argued-refused (e .vertices) (e .edges) _ k f d) r d
+unfolding AskedNumber
+core-refused e s k f r d = made-refused (AskedNumber e s) e s k (argued-refused (e .vertices) (e .edges) _ k f d) r d
 
 -- or as `edit_at` answers
 module _ (n : ℕ) (s : Lent) (shape : Lends n s) (k : ℕ) (z : k ≡ 0) where
@@ -86,19 +86,20 @@ module _ (n : ℕ) (s : Lent) (shape : Lends n s) (k : ℕ) (z : k ≡ 0) where
     pub masks-ready : Ready n (s .words) v a b
     masks-ready = ready (at v a b) f
 
-    pub masks-edited : (inserts : Bool) (r : Answer) (t : Lent) → Made (effectsOn inserts n s v a b) (edgesEdit inserts n v a b) s r t
+    pub masks-edited : (inserts : Bool) (r : Answer) (t : Lent) → Made (EditNumber inserts n s v a b) (edgesEdit inserts n v a b) s r t
         → Edited (edgesEdit inserts n v a b) s r t
-    unfolding askedOn effectsOn
+    unfolding AskedNumber EditNumber
     masks-edited inserts r t h = record {
-      number = argued-passed n (at v a b) (effectsOn inserts n s v a b) _ (rw z at f) (h .number);
+      number = argued-passed n (at v a b) (effects inserts n mostParallel (at v a b) (opened n s) (editGrounds (edgesEdit inserts n v a b) s)) _
+          (rw z at f) (h .number);
       answers = h .answers;
       leaves = h .leaves;
     }
 
   -- one edge is the edit at its start with the mask 1 << v, as a word 1 * 2 ^ v modulo 2 ^ 64
-  same-effects : (d : Bool) (u v j : ℕ) → First (effectsOn d n s u 0 (2 ^ v)) j
+  same-effects : (d : Bool) (u v j : ℕ) → EditNumber d n s u 0 (2 ^ v) j
       → First (effects d n mostParallel (one u v) (opened n s) (editGrounds (edgeEdit d n u v) s)) j
-  unfolding effectsOn
+  unfolding EditNumber
   same-effects true u v j f = f
   same-effects false u v j f = f
 
@@ -110,10 +111,10 @@ module _ (n : ℕ) (s : Lent) (shape : Lends n s) (k : ℕ) (z : k ≡ 0) where
     edge-ready = rw (one-shl v edge-shifts) (ready (one u v) f)
 
     pub edge-edited : (inserts : Bool) (r : Answer) (t : Lent)
-        → Made (effectsOn inserts n s u 0 (1 * 2 ^ v % 2 ^ 64)) (edgesEdit inserts n u 0 (1 * 2 ^ v % 2 ^ 64)) s r t → Edited (edgeEdit inserts n u v) s r t
-    unfolding askedOn
+        → Made (EditNumber inserts n s u 0 (1 * 2 ^ v % 2 ^ 64)) (edgesEdit inserts n u 0 (1 * 2 ^ v % 2 ^ 64)) s r t → Edited (edgeEdit inserts n u v) s r t
+    unfolding AskedNumber
     edge-edited inserts r t made =
-        let h : Made (effectsOn inserts n s u 0 (2 ^ v)) (edgesEdit inserts n u 0 (2 ^ v)) s r t = rw (one-shl v edge-shifts) at made in
+        let h : Made (EditNumber inserts n s u 0 (2 ^ v)) (edgesEdit inserts n u 0 (2 ^ v)) s r t = rw (one-shl v edge-shifts) at made in
         record {
           number = argued-passed n (one u v) (effects inserts n mostParallel (one u v) (opened n s) (editGrounds (edgeEdit inserts n u v) s)) _
               (rw z at f) (same-effects inserts u v _ (h .number));
@@ -125,17 +126,16 @@ module _ (n : ℕ) (s : Lent) (shape : Lends n s) (k : ℕ) (z : k ≡ 0) where
 
 module _ (e : Edit) (s : Lent) (k : ℕ) (f : First (altering (e .vertices) s []) k) (r : Answer) where
   pub call-refused : (k ≡ 0 → ⊥) → r ≡ answer k 0 0 → (r ≡ editAnswer e s) × (s ≡ editAfter e s)
-  unfolding askedOn
   call-refused d er =
-      refused-as (editConditions e s) k _ (shape-refused (e .vertices) s k f d (askedOn e s)) (edit-first e s) (lent (editWords e s)) s _ r d er
+      refused-as (editConditions e s) k _ (shape-refused (e .vertices) s k f d (asked e mostParallel (opened (e .vertices) s) (editGrounds e s))) (edit-first e s) (lent (editWords e s)) s _ r d er
 
   -- the number of the core is the call's
   pub call-edited : (t : Lent) → k ≡ 0 → Edited e s r t → (r ≡ editAnswer e s) × (t ≡ editAfter e s)
-  unfolding askedOn
+  unfolding AskedNumber
   call-edited t z h =
       let q : r .number ≡ editNumber e s =
       first-only (editConditions e s) (r .number) (editNumber e s)
-      (shape-passed (e .vertices) s (shape-of (e .vertices) s k f z) (askedOn e s) _ (h .number)) (edit-first e s) in (
+      (shape-passed (e .vertices) s (shape-of (e .vertices) s k f z) (asked e mostParallel (opened (e .vertices) s) (editGrounds e s)) _ (h .number)) (edit-first e s) in (
         h .answers ∙ ap (λ (y : ℕ). answered y (setBits (e .vertices) (editWords e s))) q,
         h .leaves ∙ ap (λ (y : ℕ). decided y (lent (editWords e s)) s) q,
       )

@@ -6,33 +6,37 @@ use mathlib.Core.List.{List}
 use Prim.Native.Nat.{ℕ, _<_}
 use Rattle.word.specs.Bit.{bit, hasBit}
 use Rattle.answer.specs.declared.Answer.{Answer}
-use Rattle.answer.specs.Table.{Conditions, First}
+use Rattle.answer.specs.Table.{First}
 use Rattle.answer.specs.Answers.{decided, answered}
 use Rattle.sheet_theory.specs.Layout.{countAt, setBits, redone}
 use Rattle.sheet_theory.specs.Lent.{Lent, lent}
 use Rattle.edit_theory.specs.Edit.{at, Edit, edgesEdit, oneIf, marked}
 use Rattle.edit_theory.specs.Book.{opened}
 use Rattle.edit_theory.specs.Table.{SomeOf, mostParallel, effects, asked}
-use Rattle.edit_theory.specs.Outcome.{editedRow, editGrounds, editWords}
+use Rattle.edit_theory.specs.Outcome.{editedRow, edited, editGrounds, editWords}
 
 -- ---- the core
 
--- the conditions on s from 3 on of the edit e, and from 5 on of the edit at v by the masks a and b
-unfoldable pub askedOn : Edit → Lent → Conditions
-askedOn e s = asked e mostParallel (opened (e .vertices) s) (editGrounds e s)
+-- k is the number of the first condition on s that holds: from 3 on, of the edit e; and from 5 on, of the edit at v by the masks a and b
+unfoldable pub AskedNumber : Edit → Lent → ℕ → Type 0
+AskedNumber e s k = First (asked e mostParallel (opened (e .vertices) s) (editGrounds e s)) k
 
-unfoldable pub effectsOn : Bool → ℕ → Lent → ℕ → ℕ → ℕ → Conditions
-effectsOn inserts n s v a b = effects inserts n mostParallel (at v a b) (opened n s) (editGrounds (edgesEdit inserts n v a b) s)
+unfoldable pub EditNumber : Bool → ℕ → Lent → ℕ → ℕ → ℕ → ℕ → Type 0
+EditNumber inserts n s v a b k = First (effects inserts n mostParallel (at v a b) (opened n s) (editGrounds (edgesEdit inserts n v a b) s)) k
 
--- e on s answers r and leaves t, by the first of the conditions cs that holds
-pub record Made (cs : Conditions) (e : Edit) (s : Lent) (r : Answer) (t : Lent) : Type 0 where
-  pub number : First cs (r .number)
+-- the edit at v by the masks a and b has made t of s, and x is the number of set bits in all rows of t
+pub record Written (inserts : Bool) (n : ℕ) (s : List ℕ) (v a b x : ℕ) (t : List ℕ) : Type 0 where
+  pub words : t ≡ edited inserts n s v a b
+  pub value : x ≡ setBits n (edited inserts n s v a b)
+
+-- e on s answers r and leaves t, where Number says which number it has
+pub record Made (Number : ℕ → Type 0) (e : Edit) (s : Lent) (r : Answer) (t : Lent) : Type 0 where
+  pub number : Number (r .number)
   pub answers : r ≡ answered (r .number) (setBits (e .vertices) (editWords e s))
   pub leaves : t ≡ decided (r .number) (lent (editWords e s)) s
 
--- the same by all of its conditions from 3 on
 abbrev pub Edited : Edit → Lent → Answer → Lent → Type 0
-Edited e s r t = Made (askedOn e s) e s r t
+Edited e s r t = Made (AskedNumber e s) e s r t
 
 -- ---- checks
 

@@ -10,7 +10,7 @@ ghost use Rattle.sheet_theory.specs.Lent.{lent};
 ghost use Rattle.edit_theory.specs.Edit.{at, oneIf};
 ghost use Rattle.edit_theory.specs.Table.{SomeEdge, SomeOf, argued};
 ghost use Rattle.edit_counts.specs.Internal.{Ready};
-ghost use Rattle.edit.specs.Internal.{effectsOn, RefusedBits, Meets};
+ghost use Rattle.edit.specs.Internal.{EditNumber, RefusedBits, Meets};
 use sheet::Refusal;
 
 // 3 if there is no vertex v, else 4 if a mask has a bit at n or above, else 0.
@@ -129,7 +129,7 @@ pub fn edit_number(
     successors: u64,
 ) -> u64
     requires { ⌜ Ready n (now sheet) v predecessors successors ⌝ }
-    ensures { λ r. ⌜ First (effectsOn inserts n (lent (now (sheet .entry))) v predecessors successors) r ⌝ }
+    ensures { λ r. ⌜ EditNumber inserts n (lent (now (sheet .entry))) v predecessors successors r ⌝ }
 {
     if !inserts {
         if some_edge(false, n, sheet, v, predecessors, successors) {

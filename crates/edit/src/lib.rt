@@ -7,11 +7,28 @@ ghost use Rattle.sheet_theory.specs.Lent.{lent};
 ghost use Rattle.edit_theory.specs.Edit.{edgeEdit, edgesEdit, insertEdge, deleteEdge, insertEdgesAt, deleteEdgesAt};
 ghost use Rattle.edit_theory.specs.Outcome.{editAnswer, editAfter};
 ghost use Rattle.edit_counts.specs.Internal.{Ready};
-ghost use Rattle.edit.specs.Internal.{effectsOn, Made, Edited};
+ghost use Rattle.edit.specs.Internal.{EditNumber, Written, Made, Edited};
 use sheet::Answer;
 
 pub mod checks;
 mod rows;
+
+// The edit at v by masks, written: the counts, and then the rows. Gives the number of set bits in all rows afterwards.
+fn write_edit(
+    inserts: bool,
+    n: usize,
+    sheet: &mut [u64],
+    v: usize,
+    predecessors: u64,
+    successors: u64,
+) -> u64
+    requires { ⌜ Ready n (now sheet) v predecessors successors ⌝ }
+    ensures { λ r. ⌜ Written inserts n (now (sheet .entry)) v predecessors successors r (now (sheet .exit)) ⌝ }
+{
+    edit_counts::edit_counts(inserts, n, sheet, v, predecessors, successors);
+    rows::edit_rows(inserts, n, sheet, v, predecessors, successors);
+    sheet::rows::count_set_bits(n, sheet)
+}
 
 // The edit at v by masks, once 1 to 4 are past: refused by 5, 6, 8 or by 7, else made.
 fn edit_at(
@@ -23,15 +40,13 @@ fn edit_at(
     successors: u64,
 ) -> Answer
     requires { ⌜ Ready n (now sheet) v predecessors successors ⌝ }
-    ensures { λ r. ⌜ Made (effectsOn inserts n (lent (now (sheet .entry))) v predecessors successors) (edgesEdit inserts n v predecessors successors) (lent (now (sheet .entry))) r (lent (now (sheet .exit))) ⌝ }
+    ensures { λ r. ⌜ Made (EditNumber inserts n (lent (now (sheet .entry))) v predecessors successors) (edgesEdit inserts n v predecessors successors) (lent (now (sheet .entry))) r (lent (now (sheet .exit))) ⌝ }
 {
     let number = checks::edit_number(inserts, n, sheet, v, predecessors, successors);
     if number != 0 {
         return Answer::refused(number);
     }
-    edit_counts::edit_counts(inserts, n, sheet, v, predecessors, successors);
-    rows::edit_rows(inserts, n, sheet, v, predecessors, successors);
-    Answer::accepted(sheet::rows::count_set_bits(n, sheet))
+    Answer::accepted(write_edit(inserts, n, sheet, v, predecessors, successors))
 }
 
 // Internal: one edge, inserted or deleted, once 1 and 2 are past: the edit at its start with no predecessor and its end for the one
