@@ -14,9 +14,9 @@ use Rattle.record.specs.Reader.{recordAt, readingAt}
 use Rattle.record.proofs.ReaderLaws.{reading-read, reading-end}
 use Rattle.answer.specs.declared.Answer.{Answer}
 use Rattle.answer.specs.Answers.{answer, decided}
-use Rattle.sheet_theory.specs.Layout.{Shape, setBits}
+use Rattle.sheet_theory.specs.Layout.{mostVertices, size, Shape, setBits}
 use Rattle.sheet_theory.specs.Lent.{Lent, lent}
-use Rattle.sheet_theory.proofs.LayoutLaws.{size-le, greatest}
+use Rattle.sheet_theory.proofs.LayoutLaws.{size-le}
 use Rattle.answer.proofs.AnswerLaws.{decided-old}
 use Rattle.sheet.specs.Fill.{over}
 use Rattle.sheet.proofs.FillLaws.{length-puts, over-front}
@@ -130,9 +130,9 @@ module _ (n : ℕ) (s : Lent) (plan : List ℕ) where
         goesOn = opens ∙ ap (λ (y : ℕ). decided y rest (record { number = j; place = suc k; left = t })) e;
       }
 
--- a sheet has at most 4,160 words
-pub sheet-long : (n : ℕ) (s : List ℕ) → Shape n s → length s ≤ 4160
-sheet-long n s h = omega (arith, h .long, size-le n (h .high), greatest)
+-- a sheet has at most the words of the greatest
+pub sheet-long : (n : ℕ) (s : List ℕ) → Shape n s → length s ≤ size mostVertices
+sheet-long n s h = omega (arith, h .long, size-le n (h .high))
 
 -- ---- apply_core: a is what the records answered, and t what they left
 
