@@ -55,14 +55,14 @@ impl Refusal {
     pub const ABSENT: u64 = 7;
     // Insertion and recount: a cycle.
     pub const CYCLE: u64 = 8;
-    // Plan read or written: the sheet is not valid. Path by number: no edge fits, n vertices without arriving, or k not 0 on
+    // Plan read or written: the sheet is not valid. Path of a rank: no edge fits, n vertices without arriving, or k not 0 on
     // arriving.
     pub const NOT_VALID: u64 = 9;
     // Buffer written: under n bytes for a path, under 8 bytes an edge for a plan.
     pub const BUFFER: u64 = 10;
-    // Path by number: k is not below the count.
+    // Path of a rank: k is not below the count.
     pub const NO_SUCH_PATH: u64 = 11;
-    // Number of a path: no vertices, more than n, or two neighbours without an edge.
+    // Rank of a path: no vertices, more than n, or two neighbours without an edge.
     pub const NO_PATH: u64 = 12;
     // Plan read: the length is not a multiple of 8, or over 32,768 bytes.
     pub const PLAN_LENGTH: u64 = 13;

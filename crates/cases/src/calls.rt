@@ -32,7 +32,7 @@ fn write_plan(n: usize, words: &[u64], plan: &mut [u8], count: usize) -> Outcome
     Outcome::Asked(plan::write_plan(n, words, &mut plan[0..count]))
 }
 
-// The number of a path, whose vertices stand in the line.
+// The rank of a path, whose vertices stand in the line.
 fn rank(line: &[u8], n: usize, words: &[u64]) -> Outcome {
     let mut buffer = [0u8; BYTES];
     let path = script::bytes_of(line, &mut buffer);
@@ -44,7 +44,7 @@ fn rank(line: &[u8], n: usize, words: &[u64]) -> Outcome {
 
 // The calls that write no word: an arm for each form, in the same order.
 fn ask(line: &[u8], n: usize, words: &[u64], bytes: &mut [u8]) -> Outcome {
-    let x = script::numbers(line);
+    let x = script::decimals(line);
     match script::form(
         line,
         b"path_count 2/validate 0/reaches_without 4/unrank 3/rank */write_plan 1/",
@@ -61,7 +61,7 @@ fn ask(line: &[u8], n: usize, words: &[u64], bytes: &mut [u8]) -> Outcome {
 
 // The calls: an arm for each form of those that may write words, in the same order, and then the others.
 pub fn answer(line: &[u8], n: usize, words: &mut [u64], bytes: &mut [u8]) -> Outcome {
-    let x = script::numbers(line);
+    let x = script::decimals(line);
     match script::form(
         line,
         b"empty 0/insert_edge 2/delete_edge 2/insert_edges_at 3/delete_edges_at 3/recount 0/read_plan 1/",

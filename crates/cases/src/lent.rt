@@ -92,7 +92,7 @@ pub fn set(
     bytes: &mut [u8; BYTES],
     kept: &mut [u64; WORDS],
 ) -> Step {
-    let x = script::numbers(line);
+    let x = script::decimals(line);
     match script::form(line, b"n 1/words 2/put */bytes 2/plan/keep 0/same 0/") {
         0 => vertices(lent, x.0),
         1 => lend_words(lent, words, x.0, x.1),

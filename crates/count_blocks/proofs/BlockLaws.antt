@@ -26,15 +26,15 @@ use Rattle.word.proofs.CountLaws.{sum-no-bits}
 use Rattle.answer.specs.Table.{Reflects}
 use Rattle.sheet_theory.specs.Layout.{Shape, rowAt, countAt, edgeAt}
 use Rattle.sheet.specs.Fill.{over}
-use Rattle.sheet.specs.Internal.{RowBase, rowBy, RowsBy, withCounts}
-use Rattle.sheet_theory.specs.Internal.{successorsSum, RowHolds}
+use Rattle.sheet.specs.Internal.{CountsFrom, wordsBy, SumsBy, withCounts}
+use Rattle.sheet_theory.specs.Internal.{successorsSum, CountsHold}
 use Rattle.answer.proofs.TableLaws.{reflects-false, reflects-true, reflects-none, reflects-iff}
-use Rattle.sheet.proofs.RowLaws.{row-long, row-at, block-count, counts-written, counts-as, counts-in, counts-stay, summed-zeros}
-use Rattle.sheet_theory.proofs.LayoutLaws.{row-within}
-use Rattle.count_rows.specs.Internal.{SameRow}
+use Rattle.sheet.proofs.WordsLaws.{words-long, words-at, block-count, counts-written, counts-as, counts-in, counts-stay, summed-zeros}
+use Rattle.sheet_theory.proofs.LayoutLaws.{from-within}
+use Rattle.vertex_counts.specs.Internal.{SameWords}
 use Rattle.order.specs.Internal.{vertexAt, Ordered}
 use Rattle.count_blocks.specs.Internal.{UnitWords, PlaceOf, OwnBy, countByMask, BlockCounted, PartHolds, BlockHolds, HasColumns, Led, BlockAt}
-use Rattle.count_rows.proofs.FilledLaws.{Filled, filled-more, same-ordered}
+use Rattle.vertex_counts.proofs.FilledLaws.{Filled, filled-more, same-ordered}
 
 -- ---- the path from a vertex to itself
 
@@ -55,10 +55,10 @@ module _ (op : ℕ → ℕ → ℕ) (i c : ℕ) (t : List ℕ) (long : length t 
     each = λ j h small. rw (delta-diff i (c + j) (λ e. elim out [ inl q ↦ omega arith | inr q ↦ omega arith ])) (wraps .none (getD t j 0) small);
   }
 
-  pub own-in : (u r : List ℕ) (p : ℕ) → UnitWords u → i ≡ c + p → p < 16 → r ≡ rowBy op 16 u (16 - p) t → OwnBy op i c t r
+  pub own-in : (u r : List ℕ) (p : ℕ) → UnitWords u → i ≡ c + p → p < 16 → r ≡ wordsBy op 16 u (16 - p) t → OwnBy op i c t r
   own-in u r p unit e high a = record {
-    long = row-long op 16 u (16 - p) t r a ∙ long;
-    each = λ j h small. row-at op 16 u (16 - p) t r a j h (omega arith) ∙ ap (op (getD t j 0)) (unit .one (16 - p + j) (omega arith) ∙ place j);
+    long = words-long op 16 u (16 - p) t r a ∙ long;
+    each = λ j h small. words-at op 16 u (16 - p) t r a j h (omega arith) ∙ ap (op (getD t j 0)) (unit .one (16 - p + j) (omega arith) ∙ place j);
   }
     where
       place : (j : ℕ) → delta (16 - p + j) 16 ≡ delta i (c + j)
@@ -78,7 +78,7 @@ place-found i c r hi hc hr e = record {
 -- ---- the block that the recurrence gives, and its columns
 
 module _ (n : ℕ) (s : List ℕ) (i mask c : ℕ) where
-  pub block-counted : (t u : List ℕ) → RowsBy plus n s mask c 16 (replicate 16 0) t n → OwnBy plus i c t u → BlockCounted n s i mask c u
+  pub block-counted : (t u : List ℕ) → SumsBy plus n s mask c 16 (replicate 16 0) t n → OwnBy plus i c t u → BlockCounted n s i mask c u
   block-counted t u added own = record {
     long = own .long;
     counts = λ j h.
@@ -90,7 +90,7 @@ module _ (n : ℕ) (s : List ℕ) (i mask c : ℕ) where
   by-place : (P : ℕ → Type 0) → ((j : ℕ) → j < 16 → P (c + j)) → (j : ℕ) → c ≤ j → j < c + 16 → P j
   by-place P h j low high = let e : c + (j - c) ≡ j = omega arith in subst P e (h (j - c) (omega arith))
 
-  pub part-filled : (t u : List ℕ) (base : ℕ) → RowBase n i base → BlockCounted n s i mask c t → u ≡ over s (base + c) (λ (j : ℕ). getD t j 0) 16
+  pub part-filled : (t u : List ℕ) (base : ℕ) → CountsFrom n i base → BlockCounted n s i mask c t → u ≡ over s (base + c) (λ (j : ℕ). getD t j 0) 16
       → u ≡ withCounts n s i c 16 (countByMask n s i mask)
   part-filled t u base at counted e = counts-written n s i c 16 (countByMask n s i mask) u (base + c) _ e (ap (λ (b : ℕ). b + c) (at .is)) (counted .counts)
 
@@ -109,19 +109,19 @@ module _ (n : ℕ) (s : List ℕ) (i mask c : ℕ) where
       let q : Congruent (2 ^ 64) (m + d) (plus 0 a) = minus-add (plus 0 a) d in
       sym (minus-congruent 0 m S (omega arith) (congruent-cancel (2 ^ 64) (0 + S) m d (omega (arith, q))))
 
-  module _ (base : ℕ) (at : RowBase n i base) (t u w : List ℕ) (first : t ≡ rowBy plus 16 s (base + c) (replicate 16 0)) (own : OwnBy minus i c t u)
-      (taken : RowsBy minus n s mask c 16 u w n) where
+  module _ (base : ℕ) (at : CountsFrom n i base) (t u w : List ℕ) (first : t ≡ wordsBy plus 16 s (base + c) (replicate 16 0)) (own : OwnBy minus i c t u)
+      (taken : SumsBy minus n s mask c 16 u w n) where
     -- what is left at place j
     left : (j : ℕ) → j < 16 → getD w j 0 ≡ minus (minus (plus 0 (countAt n s i (c + j))) (delta i (c + j))) (sum n (λ b. bit mask b * countAt n s b (c + j)))
     left j h =
         let x : getD t j 0 ≡ plus 0 (countAt n s i (c + j))
-        = row-at plus 16 s (base + c) (replicate 16 0) t first j h (rw (length-replicate {A = ℕ} 16 0) h)
+        = words-at plus 16 s (base + c) (replicate 16 0) t first j h (rw (length-replicate {A = ℕ} 16 0) h)
         ∙ ap₂ plus (getD-replicate {A = ℕ} 16 j 0 0 h) (block-count n s i base c at j) in
         let y : getD u j 0 ≡ minus (plus 0 (countAt n s i (c + j))) (delta i (c + j))
         = own .each j h (rw x (mod-lt _ (pow-pos 64))) ∙ ap (λ (z : ℕ). minus z (delta i (c + j))) x in
         taken .each j h (rw y (minus-lt _ _)) ∙ ap (λ (z : ℕ). minus z (sum n (λ b. bit mask b * countAt n s b (c + j)))) y
 
-    pub part-same : (r : Bool) → ((k : ℕ) → getD s k 0 < 2 ^ 64) → Reflects r (SameRow 16 w 0 (replicate 16 0)) → Reflects r (PartHolds n s i mask c)
+    pub part-same : (r : Bool) → ((k : ℕ) → getD s k 0 < 2 ^ 64) → Reflects r (SameWords 16 w 0 (replicate 16 0)) → Reflects r (PartHolds n s i mask c)
     part-same r small same = record {
       holds = λ e. by-place (λ j. countAt n s i j ≡ countByMask n s i mask j)
           (λ j h. left-none _ _ _ (small _) (sym (left j h) ∙ zero-at j ∙ same .holds e j h ∙ getD-replicate {A = ℕ} 16 j 0 0 h));
@@ -224,7 +224,7 @@ module _ (n : ℕ) (s l : List ℕ) (h : Ordered n s l) (shape : Shape n s) (c :
   filling-more t u k leading mask r hk f un em p led = (
     filled-more n s l h shape c 16 within t u k hk f (counts-as _ _ _ _ _ _ _ p _ whole),
     unled-more n t u (vertexAt l) c k leading mask r un led
-        (counts-in _ _ _ _ _ _ _ p (omega (arith, row-within n i (h .order .vertex k hk), f .long, shape .long, within)))
+        (counts-in _ _ _ _ _ _ _ p (omega (arith, from-within n i (h .order .vertex k hk), f .long, shape .long, within)))
         (λ a j d low high. counts-stay _ _ _ _ _ _ _ p within a j (omega (arith, within)) (λ e. absurd (d e))),
   )
     where
@@ -272,8 +272,8 @@ module _ (n : ℕ) (s : List ℕ) (c a : ℕ) (at : BlockAt n c a) where
         | no p ↦ block i hi j (omega (arith, at .low)) (at .holds j hj q)
       ]
 
-  pub held-fails : (t : Bool) → Reflects t (BlockHolds n s a) → not t ≡ true → Reflects false ((i : ℕ) → i < n → RowHolds n s i)
+  pub held-fails : (t : Bool) → Reflects t (BlockHolds n s a) → not t ≡ true → Reflects false ((i : ℕ) → i < n → CountsHold n s i)
   held-fails t r e = reflects-none (λ all. reflects-false r .0 (not-true t e) (λ i hi j low high. all i hi j (omega (arith, at .within))))
 
-pub held-all : (n : ℕ) (s : List ℕ) (c : ℕ) → Held n s c → n ≤ c → Reflects true ((i : ℕ) → i < n → RowHolds n s i)
+pub held-all : (n : ℕ) (s : List ℕ) (c : ℕ) → Held n s c → n ≤ c → Reflects true ((i : ℕ) → i < n → CountsHold n s i)
 held-all n s c was e = reflects-true (λ i hi j hj. was i j hi hj (omega arith))

@@ -1,4 +1,4 @@
-// The counts by blocks of 16 columns, written or tested, on sheets of 16 vertices or more: the counts of a row to a block's columns are
+// The counts by blocks of 16 columns, written or tested, on sheets of 16 vertices or more: the counts from a vertex to a block's columns are
 // added up, or taken off the stored ones, at once, from those successors alone that lead to one of the columns. The columns from c on
 // are the 16 of the block that begins there.
 ghost use mathlib.Core.Path.{_≡_};
@@ -7,10 +7,10 @@ ghost use lib.ListN.{length};
 ghost use Rattle.word.specs.Wrap.{plus, minus};
 ghost use Rattle.answer.specs.Table.{Reflects};
 ghost use Rattle.sheet_theory.specs.Layout.{mostVertices, Shape};
-ghost use Rattle.sheet_theory.specs.Internal.{RowHolds, RowsBelow};
+ghost use Rattle.sheet_theory.specs.Internal.{CountsHold, RowsBelow};
 ghost use Rattle.order.specs.Internal.{Ordered};
-ghost use Rattle.count_rows.specs.Internal.{counted, ColumnsFilled};
-ghost use Rattle.sheet.specs.Internal.{rowBy, RowsBy, withCounts};
+ghost use Rattle.vertex_counts.specs.Internal.{counted, ColumnsFilled};
+ghost use Rattle.sheet.specs.Internal.{wordsBy, SumsBy, withCounts};
 ghost use Rattle.count_blocks.specs.Internal.{columns, UnitWords, PlaceOf, OwnBy, countByMask, BlockCounted, PartHolds};
 ghost use Rattle.count_blocks.specs.Internal.{HasColumns, Led, BlockAt, BlockReady, BlockHolds};
 use sheet::Sheet;
@@ -46,7 +46,7 @@ fn add_own(unit: &[u64; UNIT_WORDS], i: usize, c: usize, t: &mut [u64; COLUMNS])
 {
     let place = place_of(i, c);
     if place < COLUMNS {
-        sheet::rows::add_row(COLUMNS, unit, COLUMNS - place, t);
+        sheet::words::add_words(COLUMNS, unit, COLUMNS - place, t);
     }
 }
 
@@ -63,7 +63,7 @@ fn count_block(
     ensures { λ r. ⌜ BlockCounted n (now (sheet .entry)) i mask c r ⌝ }
 {
     let mut t = [0u64; COLUMNS];
-    sheet::rows::add_rows(n, sheet, mask, c, COLUMNS, &mut t);
+    sheet::words::add_counts(n, sheet, mask, c, COLUMNS, &mut t);
     add_own(unit, i, c, &mut t);
     t
 }
@@ -104,7 +104,7 @@ fn fill_part(n: usize, sheet: &mut [u64], unit: &[u64; UNIT_WORDS], i: usize, ma
     ensures { λ r. ⌜ now (sheet .exit) ≡ withCounts n (now (sheet .entry)) i c columns (countByMask n (now (sheet .entry)) i mask) ⌝ }
 {
     let t = count_block(n, sheet, unit, i, mask, c);
-    sheet::rows::copy_words(COLUMNS, &t, sheet, sheet::layout::row_base(n, i) + c);
+    sheet::words::copy_words(COLUMNS, &t, sheet, sheet::layout::counts_from(n, i) + c);
 }
 
 // The counts from every vertex to the columns from c on, written in the order given.
@@ -143,9 +143,9 @@ pub fn fill_blocks(n: usize, sheet: &mut [u64], order: &[usize; Sheet::VERTICES]
 }
 
 // The n words from base on, taken off the first n of t, modulo 2^64.
-fn take_row(n: usize, words: &[u64], base: usize, t: &mut [u64])
+fn take_words(n: usize, words: &[u64], base: usize, t: &mut [u64])
     requires { ⌜ (n ≤ length (now t)) × (base + n ≤ length (now words)) ⌝ }
-    ensures { λ r. ⌜ now (t .exit) ≡ rowBy minus n (now (words .entry)) base (now (t .entry)) ⌝ }
+    ensures { λ r. ⌜ now (t .exit) ≡ wordsBy minus n (now (words .entry)) base (now (t .entry)) ⌝ }
 {
     let mut j = 0;
     while j < n {
@@ -161,19 +161,19 @@ fn take_own(unit: &[u64; UNIT_WORDS], i: usize, c: usize, t: &mut [u64; COLUMNS]
 {
     let place = place_of(i, c);
     if place < COLUMNS {
-        take_row(COLUMNS, unit, COLUMNS - place, t);
+        take_words(COLUMNS, unit, COLUMNS - place, t);
     }
 }
 
 // The counts from the vertices of the mask to the columns from c on, taken off.
-fn take_rows(n: usize, sheet: &[u64], mask: u64, c: usize, t: &mut [u64; COLUMNS])
+fn take_counts(n: usize, sheet: &[u64], mask: u64, c: usize, t: &mut [u64; COLUMNS])
     requires { ⌜ (Shape n (now sheet)) × (mask < 2 ^ n) × (c + columns ≤ n) × (length (now t) ≡ columns) ⌝ }
-    ensures { λ r. ⌜ RowsBy minus n (now (sheet .entry)) mask c columns (now (t .entry)) (now (t .exit)) n ⌝ }
+    ensures { λ r. ⌜ SumsBy minus n (now (sheet .entry)) mask c columns (now (t .entry)) (now (t .exit)) n ⌝ }
 {
     let mut rest = mask;
     while rest != 0 {
-        let base = sheet::layout::row_base(n, word::lowest_bit(rest));
-        take_row(COLUMNS, sheet, base + c, t);
+        let base = sheet::layout::counts_from(n, word::lowest_bit(rest));
+        take_words(COLUMNS, sheet, base + c, t);
         rest = word::clear_lowest(rest);
     }
 }
@@ -193,10 +193,10 @@ fn part_holds(
 {
     let zeros = [0u64; COLUMNS];
     let mut t = [0u64; COLUMNS];
-    sheet::rows::add_row(COLUMNS, sheet, sheet::layout::row_base(n, i) + c, &mut t);
+    sheet::words::add_words(COLUMNS, sheet, sheet::layout::counts_from(n, i) + c, &mut t);
     take_own(unit, i, c, &mut t);
-    take_rows(n, sheet, mask, c, &mut t);
-    count_rows::same_row(COLUMNS, &t, 0, &zeros)
+    take_counts(n, sheet, mask, c, &mut t);
+    vertex_counts::same_words(COLUMNS, &t, 0, &zeros)
 }
 
 // Whether the counts from every vertex to the columns from c on satisfy the recurrence.
@@ -227,7 +227,7 @@ fn block_holds(
 // Internal: whether all counts satisfy the recurrence, block by block.
 pub fn blocks_hold(n: usize, sheet: &[u64], order: &[usize; Sheet::VERTICES]) -> bool
     requires { ⌜ (Shape n (now sheet)) × (RowsBelow n (now sheet)) × (Ordered n (now sheet) (now order)) × (columns ≤ n) ⌝ }
-    ensures { λ r. ⌜ Reflects r ((i : ℕ) → i < n → RowHolds n (now (sheet .entry)) i) ⌝ }
+    ensures { λ r. ⌜ Reflects r ((i : ℕ) → i < n → CountsHold n (now (sheet .entry)) i) ⌝ }
 {
     let unit = unit_words();
     let mut c = 0;

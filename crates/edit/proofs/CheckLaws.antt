@@ -19,10 +19,10 @@ use Rattle.answer.specs.Table.{Conditions, First, Reflects}
 use Rattle.sheet_theory.specs.Layout.{rowAt, countAt, edgeAt}
 use Rattle.sheet_theory.specs.Lent.{Lent, multAt}
 use Rattle.sheet_theory.specs.Conditions.{StrayBit}
-use Rattle.sheet.specs.Internal.{RowBase}
+use Rattle.sheet.specs.Internal.{CountsFrom}
 use Rattle.answer.proofs.TableLaws.{reflects-true, reflects-iff, reflects-not, reflects-eq, reflects-false}
 use Rattle.sheet_theory.proofs.StrayLaws.{stray-iff}
-use Rattle.sheet.proofs.RowLaws.{base-count}
+use Rattle.sheet.proofs.WordsLaws.{base-count}
 use Rattle.edit_theory.specs.Edit.{at, oneIf}
 use Rattle.edit_theory.specs.Table.{SomeEdge, SomeOf, argued, mostParallel}
 use Rattle.edit.specs.Internal.{EditNumber, RefusedBits, Meets}
@@ -95,9 +95,9 @@ module _ (inserts : Bool) (n : ℕ) (s : List ℕ) (v a b : ℕ) where
           (λ o. omega (arith, and-zero b r z j (o .1), c j (omega arith) .1 (rw (o .0) at x)))
           (named-of v a b i j q)
 
--- ---- row_meets: the word at k from the base on is the count from x to k
+-- ---- meets: the word at k from the base on is the count from x to k
 
-module _ (n : ℕ) (s : List ℕ) (x k base : ℕ) (from : RowBase n x base) where
+module _ (n : ℕ) (s : List ℕ) (x k base : ℕ) (from : CountsFrom n x base) where
   pub count-some : (getD s (base + k) 0 ≡ 0 → ⊥) → 0 < countAt n s x k
   count-some d = elim (ℕ-discrete (countAt n s x k) 0) [ yes e ↦ absurd (d (base-count n s x base from k ∙ e)) | no q ↦ omega (arith, q) ]
 

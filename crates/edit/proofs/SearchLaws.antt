@@ -1,4 +1,4 @@
--- The laws of a search over the bits of a mask, by the lowest bit of what is left of it: what `some_into`, `row_meets` and `some_meets`
+-- The laws of a search over the bits of a mask, by the lowest bit of what is left of it: what `some_into`, `meets` and `some_meets`
 -- do. Assumes nothing.
 use mathlib.Core.Path.{_≡_}
 use mathlib.Core.Bool.{true, false}

@@ -4,7 +4,7 @@ use mathlib.Core.Logic.{_↔_}
 use mathlib.Core.Bool.{Bool}
 use mathlib.Core.List.{List}
 use Prim.Native.Nat.{ℕ, _<_}
-use Rattle.word.specs.Bit.{bit, hasBit}
+use Rattle.word.specs.Bit.{wordBits, bit, hasBit}
 use Rattle.answer.specs.declared.Answer.{Answer}
 use Rattle.answer.specs.Table.{First}
 use Rattle.answer.specs.Answers.{decided, answered}
@@ -42,7 +42,7 @@ Edited e s r t = Made (AskedNumber e s) e s r t
 
 -- the bits of r are those of the row at which an edge would be refused: set where an insertion finds an edge and a deletion none
 abbrev pub RefusedBits : Bool → ℕ → ℕ → Type 0
-RefusedBits inserts row r = (j : ℕ) → j < 64 → (bit r j ≡ 1) ↔ (bit row j ≡ oneIf inserts)
+RefusedBits inserts row r = (j : ℕ) → j < wordBits → (bit r j ≡ 1) ↔ (bit row j ≡ oneIf inserts)
 
 -- a count from x to a vertex of the mask is not 0
 abbrev pub Meets : ℕ → List ℕ → ℕ → ℕ → Type 0
@@ -52,7 +52,7 @@ Meets n s mask x = SomeOf n mask (λ k. 0 < countAt n s x k)
 
 -- r is the row with the bits of the mask set, or cleared
 abbrev pub Marked : Bool → ℕ → ℕ → ℕ → Type 0
-Marked inserts row mask r = (j : ℕ) → j < 64 → bit r j ≡ marked inserts (hasBit mask j) (bit row j)
+Marked inserts row mask r = (j : ℕ) → j < wordBits → bit r j ≡ marked inserts (hasBit mask j) (bit row j)
 
 -- s with each row as the edit leaves it
 abbrev pub rowsEdited : Bool → ℕ → List ℕ → ℕ → ℕ → ℕ → List ℕ

@@ -74,11 +74,11 @@ fn some_edge(
 }
 
 // Whether a count from x to a vertex of the mask is not 0.
-fn row_meets(n: usize, sheet: &[u64], x: usize, mask: u64) -> bool
+fn meets(n: usize, sheet: &[u64], x: usize, mask: u64) -> bool
     requires { ⌜ (Shape n (now sheet)) × (x < n) × (mask < 2 ^ n) ⌝ }
     ensures { λ r. ⌜ Reflects r (Meets n (now (sheet .entry)) mask x) ⌝ }
 {
-    let base = sheet::layout::row_base(n, x);
+    let base = sheet::layout::counts_from(n, x);
     let mut rest = mask;
     while rest != 0 {
         let k = word::lowest_bit(rest);
@@ -98,7 +98,7 @@ fn some_meets(n: usize, sheet: &[u64], starts: u64, ends: u64) -> bool
     let mut rest = starts;
     while rest != 0 {
         let x = word::lowest_bit(rest);
-        if row_meets(n, sheet, x, ends) {
+        if meets(n, sheet, x, ends) {
             return true;
         }
         rest = word::clear_lowest(rest);
@@ -112,7 +112,7 @@ fn closes_cycle(n: usize, sheet: &[u64], v: usize, predecessors: u64, successors
     requires { ⌜ Ready n (now sheet) v predecessors successors ⌝ }
     ensures { λ r. ⌜ Reflects r (Closes n (countAt n (now (sheet .entry))) v (bit predecessors) (bit successors)) ⌝ }
 {
-    if row_meets(n, sheet, v, predecessors) {
+    if meets(n, sheet, v, predecessors) {
         return true;
     }
     some_meets(n, sheet, successors, word::set_bit(predecessors, v))

@@ -27,7 +27,7 @@ fn write_edit(
 {
     edit_counts::edit_counts(inserts, n, sheet, v, predecessors, successors);
     rows::edit_rows(inserts, n, sheet, v, predecessors, successors);
-    sheet::rows::count_set_bits(n, sheet)
+    sheet::words::count_set_bits(n, sheet)
 }
 
 // The edit at v by masks, once 1 to 4 are past: refused by 5, 6, 8 or by 7, else made.

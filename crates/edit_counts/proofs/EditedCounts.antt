@@ -1,4 +1,4 @@
--- The laws of the counts as an edit changes them: a sum over the vertices of a mask, a row with a multiple of another added, and the rows
+-- The laws of the counts as an edit changes them: a sum over the vertices of a mask, words with a multiple of others added, and the counts from the vertices
 -- one after the other. Assumes nothing.
 use mathlib.Core.Path.{_≡_, refl, sym, ap, ap₂, _∙_}
 use mathlib.Core.Logic.{_⊎_, inl, inr}
@@ -16,18 +16,18 @@ use Rattle.graph.specs.Update.{fromSum, toSum}
 use Rattle.graph.proofs.Insertion.{from-cong}
 use Rattle.sheet_theory.specs.Layout.{countsEnd, Shape, countsFrom, rowAt, countAt}
 use Rattle.sheet.specs.Fill.{over}
-use Rattle.sheet.specs.Internal.{RowBase, RowsSummed, withCounts}
+use Rattle.sheet.specs.Internal.{CountsFrom, CountsSummed, withCounts}
 use Rattle.sheet.proofs.FillLaws.{puts-in, puts-change, over-in, over-only, over-over}
-use Rattle.sheet.proofs.RowLaws.{base-count, counts-written, counts-long, counts-in, counts-out, counts-stay}
-use Rattle.sheet_theory.proofs.LayoutLaws.{row-counts, row-within, redone-ext, length-redone, row-redone, count-redone, rest-redone}
+use Rattle.sheet.proofs.WordsLaws.{base-count, counts-written, counts-long, counts-in, counts-out, counts-stay}
+use Rattle.sheet_theory.proofs.LayoutLaws.{row-counts, from-within, redone-ext, length-redone, row-redone, count-redone, rest-redone}
 use Rattle.edit_theory.specs.Outcome.{editedCount}
-use Rattle.edit_counts.specs.Internal.{toFactor, fromFactor, withFactors, withMultiple, rowEdited, countBy, countsBy, countsEdited}
+use Rattle.edit_counts.specs.Internal.{toFactor, fromFactor, withFactors, withMultiple, countsFromEdited, countBy, countsBy, countsEdited}
 use Rattle.edit_counts.proofs.FactorLaws.{edited-by, edited-mod, edited-to}
 
 -- ---- the counts from i to the vertices of a mask added up, by the lowest bit of what is left of it
 
 module _ (n : ℕ) (s : List ℕ) (i mask : ℕ) where
-  pub from-more : (rest x k base y r : ℕ) → Adding n mask rest (countAt n s i) x → Lowest rest k → RowBase n i base
+  pub from-more : (rest x k base y r : ℕ) → Adding n mask rest (countAt n s i) x → Lowest rest k → CountsFrom n i base
       → y ≡ (x + getD s (base + k) 0) % 2 ^ 64 → LowestCleared rest r → Adding n mask r (countAt n s i) y
   from-more rest x k base y r was l at ey er =
       adding-more n mask (countAt n s i) rest x k y r was l (ey ∙ ap (λ z. (x + z) % 2 ^ 64) (base-count n s i base at k)) er
@@ -36,7 +36,7 @@ module _ (n : ℕ) (s : List ℕ) (i mask : ℕ) where
   unfolding fromSum
   from-done rest x was e = adding-done n mask (countAt n s i) rest x was e
 
--- ---- a row with a multiple of another added
+-- ---- words with a multiple of others added
 
 module _ (s : List ℕ) (base x : ℕ) (T : List ℕ) where
   pub multiple-more : (w : List ℕ) (j a r : ℕ) → w ≡ withMultiple j s base x T → a ≡ x * getD T j 0 % 2 ^ 64
@@ -48,18 +48,18 @@ module _ (s : List ℕ) (base x : ℕ) (T : List ℕ) where
   pub multiple-none : (n : ℕ) → base + n ≤ length s → ((j : ℕ) → j < n → getD s (base + j) 0 < 2 ^ 64) → x ≡ 0 → s ≡ withMultiple n s base x T
   multiple-none n h small e = over-only s s base _ n h refl (λ j q. rw e (simp zero-mul (omega (arith, small j q)))) (λ k q. refl)
 
--- ---- one row
+-- ---- the counts from one vertex
 
--- `edit_row`: both multiples, where f is the sum over the predecessors a and x the factor of T
-pub row-edited : (inserts : Bool) (n : ℕ) (s : List ℕ) (i v a base f x : ℕ) (T U h w : List ℕ) → RowBase n i base
+-- `edit_counts_from`: both multiples, where f is the sum over the predecessors a and x the factor of T
+pub counts-from-edited : (inserts : Bool) (n : ℕ) (s : List ℕ) (i v a base f x : ℕ) (T U h w : List ℕ) → CountsFrom n i base
     → f ≡ fromSum n (countAt n s) (bit a) i % 2 ^ 64 → x ≡ toFactor inserts (getD s (base + v) 0) f → h ≡ withMultiple n s base x T
-    → w ≡ withMultiple n h base f U → w ≡ rowEdited inserts n s i v a T U
-row-edited inserts n s i v a base f x T U h w at ef ex eh e =
+    → w ≡ withMultiple n h base f U → w ≡ countsFromEdited inserts n s i v a T U
+counts-from-edited inserts n s i v a base f x T U h w at ef ex eh e =
     e
     ∙ ap (λ (l : List ℕ). withMultiple n l base f U) (eh ∙ ap (λ (y : ℕ). withMultiple n s base y T) ex)
     ∙ ap₂ (λ (k g : ℕ). withMultiple n (withMultiple n s k (toFactor inserts (getD s (k + v) 0) g) T) k g U) (at .is) ef
 
--- ---- the rows one after the other
+-- ---- the vertices one after the other
 
 -- t is s with the counts from the first i vertices as the edit leaves them
 pub record Editing (inserts : Bool) (n : ℕ) (s : List ℕ) (v a : ℕ) (T : List ℕ) (i : ℕ) (t : List ℕ) : Type 0 where
@@ -110,10 +110,10 @@ module _ (inserts : Bool) (n : ℕ) (s : List ℕ) (v a : ℕ) (T : List ℕ) wh
 
     module _ (hi : i < n) (w : List ℕ) where
       fits : countsFrom n i + n ≤ length t
-      fits = omega (arith, row-within n i hi, was .long, shape .long)
+      fits = omega (arith, from-within n i hi, was .long, shape .long)
 
       -- a turn of `edit_both`
-      pub editing-both : (U l : List ℕ) → n ≤ length l → U ≡ withFactors inserts n s v T l → w ≡ rowEdited inserts n t i v a T U
+      pub editing-both : (U l : List ℕ) → n ≤ length l → U ≡ withFactors inserts n s v T l → w ≡ countsFromEdited inserts n t i v a T U
           → Editing inserts n s v a T (i + 1) w
       editing-both U l h eu e =
           editing-more _ w fits (e ∙ over-over t (countsFrom n i) _ _ n fits)
@@ -130,7 +130,7 @@ module _ (inserts : Bool) (n : ℕ) (s : List ℕ) (v a : ℕ) (T : List ℕ) wh
           editing-more _ w fits e
           (λ j hj. rw (ex, same j, same v, ea) (edited-to inserts n (countAt n s) i _ _ (countAt n s v j) (getD T j 0)))
 
--- ---- the same by where a row begins
+-- ---- the same by where the counts from a vertex begin
 
 -- t is s with the counts before base as the edit without predecessors leaves them; those from the vertex that is next begin at base
 pub record At (inserts : Bool) (n : ℕ) (s : List ℕ) (v : ℕ) (T : List ℕ) (base : ℕ) (t : List ℕ) : Type 0 where
@@ -144,25 +144,25 @@ module _ (inserts : Bool) (n : ℕ) (s : List ℕ) (v : ℕ) (T : List ℕ) wher
   at-start = record { next = 0; most = omega arith; is = omega (arith, zero-mul n); editing = editing-start inserts n s v 0 T }
 
   module _ (shape : Shape n s) (hv : v < n) (base : ℕ) (t : List ℕ) (was : At inserts n s v T base t) where
-    at-row : base < countsEnd n → was .next < n
-    at-row h =
+    at-vertex : base < countsEnd n → was .next < n
+    at-vertex h =
         elim (ℕ-discrete (was .next) n) [
           | no d ↦ omega (arith, d, was .most)
           | yes e ↦ absurd (omega (arith, was .is ∙ ap (countsFrom n) e))
         ]
 
-    -- a whole row is left
+    -- the counts from a vertex are left, all of them
     pub at-fits : base < countsEnd n → base + n ≤ length s
-    at-fits h = omega (arith, row-within n (was .next) (at-row h), shape .long, was .is)
+    at-fits h = omega (arith, from-within n (was .next) (at-vertex h), shape .long, was .is)
 
     pub at-more : (x : ℕ) (w : List ℕ) → base < countsEnd n → x ≡ toFactor inserts (getD t (base + v) 0) 0 → w ≡ withMultiple n t base x T
         → At inserts n s v T (base + n) w
     at-more x w h ex e =
         record {
           next = was .next + 1;
-          most = omega (arith, at-row h);
+          most = omega (arith, at-vertex h);
           is = omega (arith, was .is, suc-mul (was .next) n, add-one (was .next));
-          editing = editing-to inserts n s v 0 T shape (was .next) t (was .editing) (at-row h) w x refl
+          editing = editing-to inserts n s v 0 T shape (was .next) t (was .editing) (at-vertex h) w x refl
               (ex ∙ ap (λ (k : ℕ). toFactor inserts (getD t (k + v) 0) 0) (was .is))
               (e ∙ ap (λ (k : ℕ). withMultiple n t k x T) (was .is));
         }
@@ -176,7 +176,7 @@ module _ (inserts : Bool) (n : ℕ) (s : List ℕ) (v : ℕ) (T : List ℕ) wher
         ])
 
 -- `edit_counts`: the counts by the sums t for the successors b, with k for the predecessors a
-pub counts-edited : (inserts : Bool) (n : ℕ) (s : List ℕ) (v a b k : ℕ) (t w : List ℕ) → Shape n s → RowsSummed n s b t → a ≡ k
+pub counts-edited : (inserts : Bool) (n : ℕ) (s : List ℕ) (v a b k : ℕ) (t w : List ℕ) → Shape n s → CountsSummed n s b t → a ≡ k
     → w ≡ countsBy inserts n s v k t → w ≡ countsEdited inserts n s v a b
 unfolding editedCount toSum
 counts-edited inserts n s v a b k t w shape was ea e =

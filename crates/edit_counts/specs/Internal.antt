@@ -37,8 +37,8 @@ abbrev pub withMultiple : ℕ → List ℕ → ℕ → ℕ → List ℕ → List
 withMultiple n s base x t = over s base (λ j. (getD s (base + j) 0 + x * getD t j 0) % 2 ^ 64) n
 
 -- s with a multiple of t, and then one of u, added to the counts from i, by the count to v and the sum over the predecessors a
-abbrev pub rowEdited : Bool → ℕ → List ℕ → ℕ → ℕ → ℕ → List ℕ → List ℕ → List ℕ
-rowEdited inserts n s i v a t u =
+abbrev pub countsFromEdited : Bool → ℕ → List ℕ → ℕ → ℕ → ℕ → List ℕ → List ℕ → List ℕ
+countsFromEdited inserts n s i v a t u =
     let f = fromSum n (countAt n s) (bit a) i % 2 ^ 64 in
     withMultiple n (withMultiple n s (countsFrom n i) (toFactor inserts (countAt n s i v) f) t) (countsFrom n i) f u
 

@@ -1,4 +1,4 @@
-// The counts after an edit, each row from itself and from one row of words, or where there are predecessors two, that are worked out
+// The counts after an edit: those from a vertex by themselves and by one array of words, or two where there are predecessors, worked out
 // before the first word is written.
 // With x the count from i to v, y that from v to j, and F and T the sums over the predecessors and the successors, an insertion adds
 // x T + F (T + y) to the count from i to j, and a deletion (F - x) T + F (-y).
@@ -8,7 +8,7 @@ ghost use lib.ListN.{length};
 ghost use Rattle.word.specs.Bit.{bit};
 ghost use Rattle.graph.specs.Update.{fromSum};
 ghost use Rattle.sheet_theory.specs.Layout.{mostVertices, Shape, countAt};
-ghost use Rattle.edit_counts.specs.Internal.{Ready, toFactor, fromFactor, withFactors, withMultiple, rowEdited, countsBy, countsEdited};
+ghost use Rattle.edit_counts.specs.Internal.{Ready, toFactor, fromFactor, withFactors, withMultiple, countsFromEdited, countsBy, countsEdited};
 use sheet::Sheet;
 
 // What T is multiplied by: x for an insertion, f less x for a deletion, modulo 2^64.
@@ -43,7 +43,7 @@ fn from_factors(
     requires { ⌜ (Shape n (now sheet)) × (v < n) ⌝ }
     ensures { λ r. ⌜ now (u .exit) ≡ withFactors inserts n (now (sheet .entry)) v (now (t .entry)) (now (u .entry)) ⌝ }
 {
-    let base = sheet::layout::row_base(n, v);
+    let base = sheet::layout::counts_from(n, v);
     let mut j = 0;
     while j < n {
         u[j] = from_factor(inserts, t[j], sheet[base + j]);
@@ -56,7 +56,7 @@ fn sum_from(n: usize, sheet: &[u64], i: usize, mask: u64) -> u64
     requires { ⌜ (Shape n (now sheet)) × (i < n) × (mask < 2 ^ n) ⌝ }
     ensures { λ r. ⌜ r ≡ fromSum n (countAt n (now (sheet .entry))) (bit mask) i % 2 ^ 64 ⌝ }
 {
-    let base = sheet::layout::row_base(n, i);
+    let base = sheet::layout::counts_from(n, i);
     let mut sum = 0;
     let mut rest = mask;
     while rest != 0 {
@@ -82,7 +82,7 @@ fn add_multiple(n: usize, sheet: &mut [u64], base: usize, x: u64, t: &[u64; Shee
     }
 }
 
-// Every count by T alone, where there are no predecessors and each F is 0. The counts of a row begin at base.
+// Every count by T alone, where there are no predecessors and each F is 0. The counts from a vertex begin at base.
 fn edit_to(inserts: bool, n: usize, sheet: &mut [u64], v: usize, t: &[u64; Sheet::VERTICES])
     requires { ⌜ (Shape n (now sheet)) × (v < n) ⌝ }
     ensures { λ r. ⌜ now (sheet .exit) ≡ countsBy inserts n (now (sheet .entry)) v 0 (now (t .entry)) ⌝ }
@@ -97,7 +97,7 @@ fn edit_to(inserts: bool, n: usize, sheet: &mut [u64], v: usize, t: &[u64; Sheet
 }
 
 // The counts from i. u has what F is multiplied by.
-fn edit_row(
+fn edit_counts_from(
     inserts: bool,
     n: usize,
     sheet: &mut [u64],
@@ -108,9 +108,9 @@ fn edit_row(
     u: &[u64; Sheet::VERTICES],
 )
     requires { ⌜ (Shape n (now sheet)) × (i < n) × (v < n) × (predecessors < 2 ^ n) ⌝ }
-    ensures { λ r. ⌜ now (sheet .exit) ≡ rowEdited inserts n (now (sheet .entry)) i v predecessors (now (t .entry)) (now (u .entry)) ⌝ }
+    ensures { λ r. ⌜ now (sheet .exit) ≡ countsFromEdited inserts n (now (sheet .entry)) i v predecessors (now (t .entry)) (now (u .entry)) ⌝ }
 {
-    let base = sheet::layout::row_base(n, i);
+    let base = sheet::layout::counts_from(n, i);
     let x = sheet[base + v];
     let f = sum_from(n, sheet, i, predecessors);
     add_multiple(n, sheet, base, to_factor(inserts, x, f), t);
@@ -133,7 +133,7 @@ fn edit_both(
     from_factors(inserts, n, sheet, v, t, &mut u);
     let mut i = 0;
     while i < n {
-        edit_row(inserts, n, sheet, i, v, predecessors, t, &u);
+        edit_counts_from(inserts, n, sheet, i, v, predecessors, t, &u);
         i += 1;
     }
 }
@@ -150,7 +150,7 @@ pub fn edit_counts(
     requires { ⌜ Ready n (now sheet) v predecessors successors ⌝ }
     ensures { λ r. ⌜ now (sheet .exit) ≡ countsEdited inserts n (now (sheet .entry)) v predecessors successors ⌝ }
 {
-    let sums = sheet::rows::sum_rows(n, sheet, successors);
+    let sums = sheet::words::sum_counts(n, sheet, successors);
     if predecessors == 0 {
         edit_to(inserts, n, sheet, v, &sums);
         return;

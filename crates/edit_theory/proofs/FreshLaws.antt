@@ -11,7 +11,7 @@ use Rattle.sums.proofs.SumLaws.{sum-cong}
 use Rattle.word.specs.Bit.{bit}
 use Rattle.word.proofs.BitLaws.{bit-lt, bits-determine}
 use Rattle.word.proofs.CountLaws.{bitCount-below}
-use Rattle.graph.specs.Graph.{Exactly, IsPath, Acyclic}
+use Rattle.graph.specs.Graph.{PathsExactly, Acyclic}
 use Rattle.graph.specs.Count.{pathCount}
 use Rattle.graph.proofs.Lists.{exactly-only}
 use Rattle.graph.proofs.Walks.{paths-cong, cycle-cong}
@@ -110,7 +110,7 @@ fresh-made m r c s long acyclic fits rows bits counts small =
       bits = λ i j hi hj. ap (λ x. bit x j) (row-redone n r c (s .words) long i hi) ∙ bits i j hi hj;
       counts = λ i j hi hj.
           let exact = pathCount-exact n w acyclic one i j hi in
-          subst (Exactly (IsPath n w i j))
+          subst (PathsExactly n w i j)
           (sym (count-redone n r c (s .words) long i j hi hj
           ∙ sym (mod-eq-of-lt (small i j))
           ∙ counts i j hi hj

@@ -2,7 +2,7 @@
 use mathlib.Core.Path.{_≡_}
 use mathlib.Core.Bool.{Bool, true, false}
 use Prim.Native.Nat.{ℕ, _+_}
-use Rattle.graph.specs.Graph.{Exactly, IsPath}
+use Rattle.graph.specs.Graph.{PathsWithExactly}
 use Rattle.graph.specs.Uses.{Uses}
 use Rattle.sheet_theory.specs.Layout.{countAt}
 use Rattle.sheet_theory.specs.Lent.{Lent, multAt}
@@ -10,7 +10,7 @@ use Rattle.edit_theory.specs.Edit.{Edges, named}
 
 -- exactly k paths from i to j over the edges of s use at least one of the edges g
 abbrev pub Using : ℕ → Lent → Edges → ℕ → ℕ → ℕ → Type 0
-Using n s g i j k = Exactly (λ l. IsPath n (multAt n s) i j l × Uses (named g) l) k
+Using n s g i j k = PathsWithExactly n (multAt n s) i j (Uses (named g)) k
 
 -- the count from i to j, where an edit of the edges g has made t of s: an insertion raises it by the paths afterwards that use an
 -- inserted edge, a deletion lowers it by the paths before that use a deleted edge

@@ -5,7 +5,7 @@ use Prim.Native.Nat.{ℕ, _≤_, _<_}
 use lib.Dec.{ltb}
 use lib.ListN.{length}
 use Rattle.sums.specs.Sum.{sum}
-use Rattle.graph.specs.Graph.{Exactly, IsPath, Cycle, Acyclic}
+use Rattle.graph.specs.Graph.{PathsExactly, Cycle, Acyclic}
 use Rattle.answer.specs.declared.Answer.{Answer}
 use Rattle.answer.specs.Table.{Conditions, First}
 use Rattle.answer.specs.Answers.{decided}
@@ -58,4 +58,4 @@ pub record Fresh (m : Model) (s : Lent) : Type 0 where
   pub long : length (s .words) ≡ size (m .vertices)
   pub rows : ¬ (StrayRow (m .vertices) (s .words))
   pub bits : (i j : ℕ) → i < m .vertices → j < m .vertices → multAt (m .vertices) s i j ≡ m .edge i j
-  pub counts : (i j : ℕ) → i < m .vertices → j < m .vertices → Exactly (IsPath (m .vertices) (m .edge) i j) (countAt (m .vertices) (s .words) i j)
+  pub counts : (i j : ℕ) → i < m .vertices → j < m .vertices → PathsExactly (m .vertices) (m .edge) i j (countAt (m .vertices) (s .words) i j)

@@ -8,7 +8,7 @@ use native.Mathlib.Nat.{pow-suc, pow-le-pow-right}
 use native.Mathlib.Decide.{ℕ-discrete}
 use native.Mathlib.Omega.{arith}
 use lib.ListN.{length, length-append}
-use Rattle.graph.specs.Graph.{_isIn_, Distinct, Exactly, Walk, IsPath, Acyclic}
+use Rattle.graph.specs.Graph.{_isIn_, Distinct, Walk, IsPath, PathsExactly, Acyclic}
 use Rattle.graph.proofs.Lists.{in?, in-left, in-right, in-either, when, when-in, when-of, each, each-in, each-length, images-le, exactly-only}
 use Rattle.graph.proofs.Pigeon.{Others, others}
 use Rattle.graph.proofs.Walks.{walk-below, walk-end, Reach, reach-trans, walk-reach, cycle-of}
@@ -55,7 +55,7 @@ among-sublist (x ∷ s) l = put (in? x l) (among-sublist s l)
     put (no d) m = in-right (among s l) (each x (sublists s)) (sublists s) m
 
 -- from a vertex to itself there is one path, also where there is a cycle
-pub bound-self : (n : ℕ) (w : ℕ → ℕ → ℕ) (i k : ℕ) → i < n → Exactly (IsPath n w i i) k → k ≡ 1
+pub bound-self : (n : ℕ) (w : ℕ → ℕ → ℕ) (i k : ℕ) → i < n → PathsExactly n w i i k → k ≡ 1
 bound-self n w i k h r = exactly-only r (exactly-self n w i h)
 
 module _ (n : ℕ) (w : ℕ → ℕ → ℕ) (acyclic : Acyclic n w) where
@@ -108,7 +108,7 @@ module _ (n : ℕ) (w : ℕ → ℕ → ℕ) (acyclic : Acyclic n w) where
         (walk-only i l m j p′ q′ (d .1) (f .1) (path-within l m p′ q′ (rw s at d) e′) (path-within m l q′ p′ (rw t at f) (sym e′)))
 
   -- THE BOUND: the sets of other vertices that a path can come to number 2 ^ (n - 2), and no two paths come to the same ones
-  pub bound : (i j k : ℕ) → i < n → j < n → (i ≡ j → ⊥) → Exactly (IsPath n w i j) k → k ≤ 2 ^ (n - 2)
+  pub bound : (i j k : ℕ) → i < n → j < n → (i ≡ j → ⊥) → PathsExactly n w i j k → k ≤ 2 ^ (n - 2)
   bound i j k hi hj d r =
       let o = others n i j hi hj d in
       let e : length (o .list) ≡ n - 2 = omega (arith, o .many) in
@@ -122,7 +122,7 @@ module _ (n : ℕ) (w : ℕ → ℕ → ℕ) (acyclic : Acyclic n w) where
       )
 
   -- with up to 64 vertices there are fewer than 2 ^ 64 paths: 1, or at most 2 ^ 62
-  pub paths-below : n ≤ 64 → (i j k : ℕ) → i < n → j < n → Exactly (IsPath n w i j) k → k < 2 ^ 64
+  pub paths-below : n ≤ 64 → (i j k : ℕ) → i < n → j < n → PathsExactly n w i j k → k < 2 ^ 64
   paths-below hn i j k hi hj r =
       elim (ℕ-discrete i j) [
         | yes e ↦ omega (arith, bound-self n w i k hi (rw (← e) at r))

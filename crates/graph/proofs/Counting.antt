@@ -12,7 +12,7 @@ use Rattle.sums.specs.Sum.{delta}
 use Rattle.sums.specs.Gather.{gather}
 use Rattle.sums.proofs.SumLaws.{delta-refl, delta-diff, sum-cong}
 use Rattle.sums.proofs.GatherLaws.{gather-length}
-use Rattle.graph.specs.Graph.{_isIn_, Distinct, Exactly, Edge, Walk, IsPath, Acyclic}
+use Rattle.graph.specs.Graph.{_isIn_, Distinct, Edge, Walk, IsPath, PathsExactly, Acyclic}
 use Rattle.graph.specs.Count.{walks, pathCount}
 use Rattle.graph.proofs.Lists.{in-left, in-right, in-either, append-distinct, gather-in, gather-of, gather-distinct}
 use Rattle.graph.proofs.Lists.{when, when-in, when-of, when-distinct, each, each-in, each-of, each-distinct, each-length}
@@ -138,7 +138,7 @@ module _ (n : ℕ) (w : ℕ → ℕ → ℕ) where
   )
 
   -- from a vertex to itself there is one path
-  pub exactly-self : (i : ℕ) → i < n → Exactly (IsPath n w i i) 1
+  pub exactly-self : (i : ℕ) → i < n → PathsExactly n w i i 1
   exactly-self i h = record {
     list = (i ∷ []) ∷ [];
     once = ((λ m. m), tt);
@@ -152,7 +152,7 @@ module _ (n : ℕ) (w : ℕ → ℕ → ℕ) where
   path-listed-iff a i j h x = (path-in a i j x, λ m. let r = walkList-of n i j x m in rw (r .1) (walk-path a i (r .0) j h (r .2)))
 
   -- COUNTING: there are exactly `pathCount i j` paths from i to j
-  pub pathCount-exact : Acyclic n w → ((i j : ℕ) → i < n → j < n → w i j ≤ 1) → (i j : ℕ) → i < n → Exactly (IsPath n w i j) (pathCount n w i j)
+  pub pathCount-exact : Acyclic n w → ((i j : ℕ) → i < n → j < n → w i j ≤ 1) → (i j : ℕ) → i < n → PathsExactly n w i j (pathCount n w i j)
   unfolding pathCount
   pathCount-exact a one i j h = record {
     list = walkList n i j;

@@ -6,7 +6,7 @@ use Prim.Native.Nat.{ℕ, zero, suc, _-_, _*_, _^_, _≤_, _<_, zero-le}
 use native.Mathlib.Omega.{arith}
 use lib.ListN.{getD}
 use Rattle.sums.specs.Sum.{sum, delta}
-use Rattle.graph.specs.Graph.{Exactly, IsPath, Cycle, Acyclic}
+use Rattle.graph.specs.Graph.{PathsExactly, PathsWithExactly, Cycle, Acyclic}
 use Rattle.graph.specs.Count.{walks, pathCount}
 use Rattle.graph.specs.Uses.{Uses, oneEdge}
 use Rattle.graph.proofs.Peeling.{order-acyclic}
@@ -70,7 +70,7 @@ unfolding complete pathCount walks sum delta
 complete-count = refl
 
 -- it has as many paths as `bound` of proofs/Bound.antt allows
-pub complete-exactly : Exactly (IsPath 5 complete 0 4) (2 ^ (5 - 2))
+pub complete-exactly : PathsExactly 5 complete 0 4 (2 ^ (5 - 2))
 complete-exactly = rw complete-count at (pathCount-exact 5 complete (complete-acyclic 5) (λ i j hi hj. complete-le i j) 0 4 (omega arith))
 
 complete-through-count : pathCount 6 complete 0 2 * pathCount 6 complete 3 5 ≡ 4
@@ -78,7 +78,7 @@ unfolding complete pathCount walks sum delta
 complete-through-count = refl
 
 -- two paths lead to the tail of the edge from 2 to 3 and two from its head: four use it
-pub complete-through : Exactly (λ p. IsPath 6 complete 0 5 p × Uses (oneEdge 2 3) p) 4
+pub complete-through : PathsWithExactly 6 complete 0 5 (Uses (oneEdge 2 3)) 4
 unfolding complete
 complete-through =
     rw complete-through-count at

@@ -11,7 +11,7 @@ use native.Mathlib.Omega.{arith}
 use borrow.Author.Tests.{eq-eqb, ne-eqb}
 use Rattle.sums.specs.Sum.{delta}
 use Rattle.sums.proofs.SumLaws.{delta-refl, delta-diff, sum-pick, sum-all-zero}
-use Rattle.graph.specs.Graph.{Exactly, Edge, IsPath, Acyclic}
+use Rattle.graph.specs.Graph.{Edge, IsPath, PathsWithExactly, Acyclic}
 use Rattle.graph.specs.Count.{pathCount}
 use Rattle.graph.specs.Update.{inserted, fromSum, toSum}
 use Rattle.graph.specs.Uses.{Uses, oneEdge}
@@ -88,7 +88,7 @@ module _ (n : ℕ) (w : ℕ → ℕ → ℕ) (acyclic : Acyclic n w) (one : (i j
     through-le = omega (arith, deleted-count i j hi hj)
 
     -- the paths that use the edge from u to v: one to its tail, the edge, one from its head
-    pub paths-through : Exactly (λ p. IsPath n w i j p × Uses (oneEdge u v) p) (pathCount n w i u * pathCount n w v j)
+    pub paths-through : PathsWithExactly n w i j (Uses (oneEdge u v)) (pathCount n w i u * pathCount n w v j)
     paths-through =
         let r = paths-using n (deleted w u v) w (oneEdge u v) (λ x y hx hy. deleted-gone w u v x y) (λ x y hx hy. deleted-kept w u v x y) i j _ _
         (pathCount-exact n (deleted w u v) deleted-acyclic deleted-le i j hi) (pathCount-exact n w acyclic one i j hi) in

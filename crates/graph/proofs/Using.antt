@@ -7,7 +7,7 @@ use mathlib.Core.List.{List, [], _∷_}
 use Prim.Native.Nat.{ℕ, _+_, _<_}
 use native.Mathlib.Omega.{arith}
 use lib.ListN.{length}
-use Rattle.graph.specs.Graph.{Exactly, Edge, Walk, IsPath}
+use Rattle.graph.specs.Graph.{Edge, Walk, IsPath, PathsExactly, PathsWithExactly}
 use Rattle.graph.specs.Uses.{Uses}
 use Rattle.graph.proofs.Lists.{keep, exactly-only, exactly-cong, exactly-keep, exactly-either}
 use Rattle.graph.proofs.Walks.{path-widen}
@@ -54,8 +54,8 @@ module _ (n : ℕ) (w w′ : ℕ → ℕ → ℕ) (f : ℕ → ℕ → Bool)
   path-unnamed-iff i j l = (λ p. (path-widen n w w′ edge-kept i j l p, path-unnamed i j l p), λ p. path-back i j l (p .0) (p .1))
 
   -- a path of the second graph is one of the first or goes along a named edge, and never both
-  pub paths-using : (i j k k′ : ℕ) → Exactly (IsPath n w i j) k → Exactly (IsPath n w′ i j) k′
-      → (c : ℕ) × Exactly (λ p. IsPath n w′ i j p × Uses f p) c × (k′ ≡ k + c)
+  pub paths-using : (i j k k′ : ℕ) → PathsExactly n w i j k → PathsExactly n w′ i j k′
+      → (c : ℕ) × PathsWithExactly n w′ i j (Uses f) c × (k′ ≡ k + c)
   paths-using i j k k′ p q =
       let u = exactly-keep (uses? f) q in (
         length (keep (uses? f) (q .list)),

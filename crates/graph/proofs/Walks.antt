@@ -5,7 +5,7 @@ use mathlib.Core.List.{List, [], _∷_, _++_}
 use Prim.Native.Nat.{ℕ, _≤_, _<_}
 use native.Mathlib.Omega.{arith}
 use lib.ListN.{length}
-use Rattle.graph.specs.Graph.{_isIn_, Exactly, Edge, Walk, IsPath, Cycle, Acyclic}
+use Rattle.graph.specs.Graph.{_isIn_, Edge, Walk, IsPath, PathsExactly, Cycle, Acyclic}
 use Rattle.graph.proofs.Lists.{exactly-cong}
 use Rattle.graph.proofs.Pigeon.{Below, pigeonhole}
 
@@ -108,5 +108,5 @@ module _ (n : ℕ) (w w′ : ℕ → ℕ → ℕ) (same : (i j : ℕ) → i < n 
 
 -- tables that agree on the vertices have the same number of paths
 pub paths-cong : (n : ℕ) (w w′ : ℕ → ℕ → ℕ) → ((i j : ℕ) → i < n → j < n → w i j ≡ w′ i j)
-    → (i j k : ℕ) → Exactly (IsPath n w i j) k → Exactly (IsPath n w′ i j) k
+    → (i j k : ℕ) → PathsExactly n w i j k → PathsExactly n w′ i j k
 paths-cong n w w′ h i j k = exactly-cong (path-cong n w w′ h i j) (path-cong n w′ w (λ x y hx hy. sym (h x y hx hy)) i j)

@@ -43,6 +43,14 @@ module _ (n : ℕ) (w : ℕ → ℕ → ℕ) where
   IsPath i j [] = ⊥
   IsPath i j (a ∷ l) = (a ≡ i) × (a < n) × Walk a l j × Distinct (a ∷ l)
 
+  -- exactly k paths lead from i to j
+  abbrev pub PathsExactly : ℕ → ℕ → ℕ → Type 0
+  PathsExactly i j k = Exactly (IsPath i j) k
+
+  -- exactly k of the paths from i to j are a P
+  abbrev pub PathsWithExactly : ℕ → ℕ → (List ℕ → Type 0) → ℕ → Type 0
+  PathsWithExactly i j P k = Exactly (λ l. IsPath i j l × P l) k
+
   -- A cycle, a ring of document 01: a walk of one edge or more from a vertex back to it.
   pub record Cycle : Type 0 where
     pub at : ℕ

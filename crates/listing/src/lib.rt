@@ -5,8 +5,8 @@ ghost use Rattle.text.specs.Text.{written};
 ghost use Rattle.listing_theory.specs.Listing.{listing, inputBytes};
 use sheet::Sheet;
 
+mod digits;
 mod lines;
-mod number;
 
 // The sizes of the buffers around a listing.
 pub struct Listing {}

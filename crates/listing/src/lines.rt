@@ -5,19 +5,19 @@ ghost use lib.ListN.{length};
 ghost use Rattle.text.specs.Text.{Put};
 ghost use Rattle.sheet_theory.specs.Layout.{mostVertices, Shape};
 ghost use Rattle.sheet_theory.specs.Lent.{lent};
-ghost use Rattle.listing_theory.specs.Lines.{decimal, pipesLine, refusedLine, countLine, pairLine, rowLines, countLines, printed, mostListed};
-use crate::number;
+ghost use Rattle.listing_theory.specs.Lines.{decimal, pipesLine, refusedLine, countLine, pairLine, linesFrom, countLines, printed, mostListed};
+use crate::digits;
 use sheet::Answer;
 use sheet::Sheet;
 use sheet::layout;
 
-// A label and a number.
+// A label and a decimal.
 fn put_labelled(out: &mut [u8], at: usize, label: &[u8], x: u64) -> usize
     requires { ⌜ at + length (now label ++ decimal x) ≤ length (now out) ⌝ }
     ensures { λ r. ⌜ Put (now (out .entry)) at (now (label .entry) ++ decimal x) (now (out .exit)) r ⌝ }
 {
     let first = text::put(out, at, label);
-    number::put(out, first, x)
+    digits::put(out, first, x)
 }
 
 // `pipes` and their number.
@@ -69,9 +69,9 @@ fn put_pair(sheet: &[u64], i: usize, j: usize, out: &mut [u8], at: usize) -> usi
 }
 
 // The lines of i.
-fn put_row(sheet: &[u64], i: usize, out: &mut [u8], at: usize) -> usize
-    requires { ⌜ (Shape mostVertices (now sheet)) × (i < mostVertices) × (at + length (rowLines (now sheet) i) ≤ length (now out)) ⌝ }
-    ensures { λ r. ⌜ Put (now (out .entry)) at (rowLines (now (sheet .entry)) i) (now (out .exit)) r ⌝ }
+fn put_lines_from(sheet: &[u64], i: usize, out: &mut [u8], at: usize) -> usize
+    requires { ⌜ (Shape mostVertices (now sheet)) × (i < mostVertices) × (at + length (linesFrom (now sheet) i) ≤ length (now out)) ⌝ }
+    ensures { λ r. ⌜ Put (now (out .entry)) at (linesFrom (now (sheet .entry)) i) (now (out .exit)) r ⌝ }
 {
     let mut place = at;
     let mut j = 0;
@@ -83,14 +83,14 @@ fn put_row(sheet: &[u64], i: usize, out: &mut [u8], at: usize) -> usize
 }
 
 // The lines of all vertices.
-fn put_rows(sheet: &[u64], out: &mut [u8], at: usize) -> usize
+fn put_lines(sheet: &[u64], out: &mut [u8], at: usize) -> usize
     requires { ⌜ (Shape mostVertices (now sheet)) × (at + length (countLines (now sheet)) ≤ length (now out)) ⌝ }
     ensures { λ r. ⌜ Put (now (out .entry)) at (countLines (now (sheet .entry))) (now (out .exit)) r ⌝ }
 {
     let mut place = at;
     let mut i = 0;
     while i < Sheet::VERTICES {
-        place = put_row(sheet, i, out, place);
+        place = put_lines_from(sheet, i, out, place);
         i += 1;
     }
     place
@@ -106,5 +106,5 @@ pub(crate) fn write(answer: Answer, sheet: &[u64], out: &mut [u8]) -> usize
         return put_refused(out, 0, answer.place, number);
     }
     let first = put_pipes(out, 0, answer.value);
-    put_rows(sheet, out, first)
+    put_lines(sheet, out, first)
 }

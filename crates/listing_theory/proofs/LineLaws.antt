@@ -1,4 +1,4 @@
--- The laws of the lines of a listing: pieces put one after the other make a line, lines make a row, rows make all lines; and how long
+-- The laws of the lines of a listing: pieces put one after the other make a line, the lines from each vertex make all lines; and how long
 -- they are at most. Assumes nothing.
 use mathlib.Core.Path.{_≡_, sym, ap, ap₂, subst, _∙_}
 use mathlib.Core.Bool.{Bool, true, false, cond, not, _&&_, and-false}
@@ -10,7 +10,7 @@ use borrow.Author.Tests.{eq-eqb, ne-eqb, lt-ltb, le-ltb}
 use lib.Dec.{ltb, eqb}
 use lib.ListN.{length, length-append}
 use Rattle.sums.specs.Gather.{gather}
-use Rattle.sums.proofs.GatherLaws.{gather-rows, gather-bound}
+use Rattle.sums.proofs.GatherLaws.{gather-nested, gather-bound}
 use Rattle.text.specs.Text.{twoDigits, Put}
 use Rattle.text.proofs.TextLaws.{put-none, put-length, put-more}
 use Rattle.answer.specs.declared.Answer.{Answer}
@@ -18,10 +18,10 @@ use Rattle.answer.specs.Answers.{decided}
 use Rattle.sheet_theory.specs.Layout.{mostVertices, countAt}
 use Rattle.sheet_theory.specs.Lent.{Lent}
 use Rattle.answer.proofs.AnswerLaws.{decided-old}
-use Rattle.listing_theory.specs.Lines.{decimal, pipesLabel, pipesLine, recordLabel, refusedLabel, refusedLine, countLine, pairLine, rowLines, countLines, printed}
+use Rattle.listing_theory.specs.Lines.{decimal, pipesLabel, pipesLine, recordLabel, refusedLabel, refusedLine, countLine, pairLine, linesFrom, countLines, printed}
 use Rattle.listing_theory.proofs.DecimalLaws.{decimal-le}
 
--- ---- one line: a label and a number, and then more
+-- ---- one line: a label and a decimal, and then more
 
 pub labelled-put : (out : List ℕ) (at : ℕ) (b l : List ℕ) (p x : ℕ) (m : List ℕ) (q : ℕ) → Put out at b l p → Put l p (decimal x) m q
     → at + length (b ++ decimal x) ≤ length out → Put out at (b ++ decimal x) m q
@@ -104,8 +104,8 @@ module _ (s : List ℕ) (i j : ℕ) where
 -- ---- all lines: of the 64 × 64 pairs, ascending, the one at k is k / 64 and k % 64
 
 pub lines-ascending : (s : List ℕ) → countLines s ≡ gather (mostVertices * mostVertices) (λ k. pairLine s (k / mostVertices) (k % mostVertices))
-unfolding countLines rowLines
-lines-ascending s = gather-rows mostVertices mostVertices (pairLine s) (omega arith)
+unfolding countLines linesFrom
+lines-ascending s = gather-nested mostVertices mostVertices (pairLine s) (omega arith)
 
 -- ---- how long the lines are
 
@@ -125,13 +125,13 @@ pair-le s i j = go (not (eqb i j) && ltb 0 (countAt mostVertices s i j))
     go true = omega (arith, decimal-le (countAt mostVertices s i j), length-append (decimal (countAt mostVertices s i j)) (10 ∷ []))
     go false = omega arith
 
-row-le : (s : List ℕ) (i : ℕ) → length (rowLines s i) ≤ mostVertices * 27
-unfolding rowLines
-row-le s i = gather-bound mostVertices (pairLine s i) 27 (λ j hj. pair-le s i j)
+lines-from-le : (s : List ℕ) (i : ℕ) → length (linesFrom s i) ≤ mostVertices * 27
+unfolding linesFrom
+lines-from-le s i = gather-bound mostVertices (pairLine s i) 27 (λ j hj. pair-le s i j)
 
-pub rows-le : (s : List ℕ) → length (countLines s) ≤ mostVertices * (mostVertices * 27)
+pub lines-le : (s : List ℕ) → length (countLines s) ≤ mostVertices * (mostVertices * 27)
 unfolding countLines
-rows-le s = gather-bound mostVertices (rowLines s) (mostVertices * 27) (λ i hi. row-le s i)
+lines-le s = gather-bound mostVertices (linesFrom s) (mostVertices * 27) (λ i hi. lines-from-le s i)
 
 -- ---- what is printed of a plan that is answered with r and has left s
 

@@ -10,7 +10,7 @@ use lib.ListN.{length, take}
 use lib.Seq.{length-take-le, take-all}
 use Rattle.text.specs.Text.{Put, written}
 use Rattle.text.proofs.TextLaws.{put-written}
-use Rattle.graph.specs.Graph.{Exactly, IsPath}
+use Rattle.graph.specs.Graph.{PathsExactly}
 use Rattle.graph.proofs.Lists.{exactly-only}
 use Rattle.answer.specs.declared.Answer.{Answer}
 use Rattle.answer.specs.Table.{_gives_, First}
@@ -105,11 +105,11 @@ listing-plan s v =
 
 -- on a valid sheet the line of two different vertices has the number of paths between them, and there is none where there is no path
 pub pair-paths : (s : Lent) (i j c : ℕ) → Valid mostVertices s → i < mostVertices → j < mostVertices → ¬ (i ≡ j)
-    → Exactly (IsPath mostVertices (edgeAt (s .words)) i j) (suc c) → pairLine (s .words) i j ≡ countLine i j (suc c)
+    → PathsExactly mostVertices (edgeAt (s .words)) i j (suc c) → pairLine (s .words) i j ≡ countLine i j (suc c)
 pair-paths s i j c v hi hj d x =
     let e : countAt mostVertices (s .words) i j ≡ suc c = exactly-only (v .counts i j hi hj) x in
     pair-shown (s .words) i j d (omega arith) ∙ ap (countLine i j) e
 
 pub pair-no-path : (s : Lent) (i j : ℕ) → Valid mostVertices s → i < mostVertices → j < mostVertices
-    → Exactly (IsPath mostVertices (edgeAt (s .words)) i j) 0 → pairLine (s .words) i j ≡ []
+    → PathsExactly mostVertices (edgeAt (s .words)) i j 0 → pairLine (s .words) i j ≡ []
 pair-no-path s i j v hi hj x = pair-hidden (s .words) i j (inr (exactly-only (v .counts i j hi hj) x))

@@ -45,12 +45,12 @@ unfoldable pub pairLine : List ℕ → ℕ → ℕ → List ℕ
 pairLine s i j = let c = countAt mostVertices s i j in cond (not (eqb i j) && ltb 0 c) (countLine i j c) []
 
 -- those of i, ascending
-unfoldable pub rowLines : List ℕ → ℕ → List ℕ
-rowLines s i = gather mostVertices (pairLine s i)
+unfoldable pub linesFrom : List ℕ → ℕ → List ℕ
+linesFrom s i = gather mostVertices (pairLine s i)
 
 -- all of them, ascending
 unfoldable pub countLines : List ℕ → List ℕ
-countLines s = gather mostVertices (rowLines s)
+countLines s = gather mostVertices (linesFrom s)
 
 -- what is printed of a plan that is answered with r and has left s
 abbrev pub printed : Answer → Lent → List ℕ

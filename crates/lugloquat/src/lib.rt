@@ -108,7 +108,7 @@ pub extern "C" fn lugloquat_reaches_without(
     query::reaches_without(n, sheet, from, to, edge_from, edge_to)
 }
 
-// The walk from one vertex to another by a number, written to the first bytes of `path`, one byte a vertex.
+// The walk from one vertex to another by a rank, written to the first bytes of `path`, one byte a vertex.
 // Refused by 1, 2, 3, 10, 11, 9. The value is the number of vertices written.
 #[no_mangle]
 pub extern "C" fn lugloquat_unrank(

@@ -6,14 +6,14 @@ fn vertex(before: &[u8], v: usize) {
     if v < 10 {
         script::print(b"0");
     }
-    script::print_number(b"", v as u64);
+    script::print_decimal(b"", v as u64);
 }
 
-// The line of a path: its ends, its number, its vertices.
+// The line of a path: its ends, its rank, its vertices.
 pub fn path(from: usize, to: usize, k: u64, vertices: &[u8]) {
     vertex(b"", from);
     vertex(b" ", to);
-    script::print_number(b" ", k);
+    script::print_decimal(b" ", k);
     script::print(b":");
     let mut t = 0;
     while t < vertices.len() {

@@ -1,9 +1,9 @@
-// The paths of a sheet, listed: each comes from `query::unrank`, and `query::rank` has to give its number back.
+// The paths of a sheet, listed: each comes from `query::unrank`, and `query::rank` has to give its rank back.
 use crate::lines;
 use sheet::Refusal;
 use sheet::Sheet;
 
-// The path by the number k, on a line of its own: whether there is one. What the two calls should not answer has a line too.
+// The path of rank k, on a line of its own: whether there is one. What the two calls should not answer has a line too.
 fn path(n: usize, sheet: &[u64], from: usize, to: usize, k: u64) -> bool {
     let mut bytes = [0u8; Sheet::VERTICES];
     let found = query::unrank(n, sheet, from, to, k, &mut bytes);
@@ -28,7 +28,7 @@ fn path(n: usize, sheet: &[u64], from: usize, to: usize, k: u64) -> bool {
     true
 }
 
-// The paths from one vertex to another, by ascending number, until there is none.
+// The paths from one vertex to another, by ascending rank, until there is none.
 fn paths_between(n: usize, sheet: &[u64], from: usize, to: usize) {
     let mut k = 0;
     while k < u64::MAX && path(n, sheet, from, to, k) {

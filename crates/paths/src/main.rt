@@ -37,8 +37,8 @@ fn list_in(sheet: &mut [u64], k: u64, n: usize, m: usize, text: &[u8]) -> u64 {
     if number != 0 {
         return number;
     }
-    script::print_number(b"orchard ", k);
-    script::print_number(b" stations ", n as u64);
+    script::print_decimal(b"orchard ", k);
+    script::print_decimal(b" stations ", n as u64);
     script::print_last(b" pipes ", m as u64);
     list::paths(n, sheet);
     0
@@ -68,7 +68,7 @@ fn first_graph(text: &[u8], k: u64) -> usize {
     if number == 0 {
         return lines;
     }
-    script::print_number(b"orchard ", k);
+    script::print_decimal(b"orchard ", k);
     script::print_last(b" refused ", number);
     0
 }

@@ -31,8 +31,8 @@ pub fn first(text: &[u8]) -> Record {
         return Record::Malformed;
     }
     match script::form(line, b"N 2/L 2/") {
-        0 => Record::Graph(script::number(line, 1), script::number(line, 2)),
-        1 => Record::Edge(script::number(line, 1), script::number(line, 2)),
+        0 => Record::Graph(script::decimal(line, 1), script::decimal(line, 2)),
+        1 => Record::Edge(script::decimal(line, 1), script::decimal(line, 2)),
         _ => Record::Malformed,
     }
 }

@@ -57,11 +57,11 @@ pub fn apply_core(n: usize, sheet: &mut [u64], plan: &[u8]) -> Answer
 {
     let words = sheet::layout::word_count(n);
     let mut kept = [0u64; Sheet::WORDS];
-    sheet::rows::copy_words(words, sheet, &mut kept, 0);
+    sheet::words::copy_words(words, sheet, &mut kept, 0);
     let answer = apply(n, sheet, plan);
     if answer.number != 0 {
-        sheet::rows::copy_words(words, &kept, sheet, 0);
+        sheet::words::copy_words(words, &kept, sheet, 0);
         return answer;
     }
-    Answer::accepted(sheet::rows::count_set_bits(n, sheet))
+    Answer::accepted(sheet::words::count_set_bits(n, sheet))
 }

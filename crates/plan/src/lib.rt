@@ -35,7 +35,7 @@ pub fn write_plan(n: usize, sheet: &[u64], plan: &mut [u8]) -> Answer
     if number != 0 {
         return Answer::refused(number);
     }
-    let bytes = Record::BYTES as u64 * sheet::rows::count_set_bits(n, sheet);
+    let bytes = Record::BYTES as u64 * sheet::words::count_set_bits(n, sheet);
     if (plan.len() as u64) < bytes {
         return Answer::refused(Refusal::BUFFER);
     }

@@ -37,7 +37,7 @@ onto-alone : (l : List ℕ) (x : ℕ) → onto l (x ∷ []) ≡ l ++ x ∷ []
 onto-alone [] x = refl
 onto-alone (y ∷ l) x = ap (headed y) (onto-alone l x) ∙ headed-some y x l []
 
--- ---- walk_aside: the walk is at a vertex, `left` is left of its number, and `count` vertices before it are kept in l
+-- ---- walk_aside: the walk is at a vertex, `left` is left of its rank, and `count` vertices before it are kept in l
 
 pub record Walking (n : ℕ) (s : List ℕ) (i j k at left count : ℕ) (l : List ℕ) : Type 0 where
   pub long : length l ≡ 64
@@ -49,7 +49,7 @@ module _ (n : ℕ) (s : List ℕ) (i j k : ℕ) where
   pub walking-start : (l : List ℕ) → i < n → length l ≡ 64 → Walking n s i j k i k 0 l
   walking-start l h long = record { long = long; vertex = h; many = omega arith; goesOn = ap (λ m. walked (edgeAt s) (countAt n s) j n m i k) (omega arith) }
 
-  -- a walk that does not arrive with its number at 0 keeps nothing
+  -- a walk that does not arrive with its rank at 0 keeps nothing
   kept-none : (l : List ℕ) → length l ≡ 64 → walk n s i j k ≡ [] → WalkKept n s i j k 0 l
   kept-none l long e = record { long = long; within = omega arith; kept = sym e }
 

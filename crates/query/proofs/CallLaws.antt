@@ -14,7 +14,7 @@ use Rattle.answer.proofs.TableLaws.{first-only, first-more}
 use Rattle.answer.proofs.ByNumber.{first-after}
 use Rattle.answer.proofs.AnswerLaws.{answered-refused, answered-accepted, refused-as, accepted-as}
 use Rattle.query_theory.specs.Unrank.{walk, walkConditions, unrankConditions, unrankAnswer, unrankAfter}
-use Rattle.query_theory.specs.Rank.{rankConditions, rankNumber, pathNumber, rankAnswer}
+use Rattle.query_theory.specs.Rank.{rankConditions, rankNumber, pathRank, rankAnswer}
 use Rattle.query_theory.proofs.Refusals.{unrank-first, rank-first}
 use Rattle.query.specs.Internal.{beforeWalk, WalkKept}
 use Rattle.query.proofs.AsideLaws.{aside-taken}
@@ -58,5 +58,5 @@ module _ (n : ℕ) (s : Lent) (p : List ℕ) (k : ℕ) (f : First (rankCondition
   pub rank-stops : (k ≡ 0 → ⊥) → r ≡ answer k 0 0 → r ≡ rankAnswer n s p
   rank-stops d er = answered-refused k _ given _ r d er
 
-  pub rank-accepted : (x : ℕ) → k ≡ 0 → x ≡ pathNumber n (s .words) p % 2 ^ 64 → r ≡ answer 0 0 x → r ≡ rankAnswer n s p
+  pub rank-accepted : (x : ℕ) → k ≡ 0 → x ≡ pathRank n (s .words) p % 2 ^ 64 → r ≡ answer 0 0 x → r ≡ rankAnswer n s p
   rank-accepted x z ex er = answered-accepted k _ given _ r z (er ∙ ap (answer 0 0) ex)

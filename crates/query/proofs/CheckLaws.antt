@@ -19,7 +19,7 @@ use Rattle.answer.proofs.TableLaws.{reflects-false, first-past, first-more}
 use Rattle.answer.proofs.ByNumber.{first-not, first-after}
 use Rattle.sheet_theory.proofs.ShapeLaws.{accepted-shape, shape-passed, shape-rest, shape-refused, shape-of, vertex-below}
 use Rattle.query_theory.specs.ReachesWithout.{edgeConditions, reachesWithoutConditions}
-use Rattle.query_theory.specs.Unrank.{numberConditions}
+use Rattle.query_theory.specs.Unrank.{bufferConditions}
 use Rattle.query_theory.specs.Rank.{SomeNoVertex, Broken, pathConditions, rankConditions}
 use Rattle.query.specs.Internal.{Vertices, Greater, beforeWalk}
 use Rattle.query.proofs.PathLaws.{vertices-of}
@@ -86,11 +86,11 @@ without-ready n s i j u v k f z =
 
 module _ (n : ℕ) (s : Lent) (i j k len m : ℕ) (f : First (sized n s (vertexConditions n i j [])) m) where
   pub walk-ends : (m ≡ 0 → ⊥) → First (beforeWalk n s i j k len) m
-  walk-ends = first-more (sized n s (vertexConditions n i j [])) (numberConditions n s i j k len []) m f
+  walk-ends = first-more (sized n s (vertexConditions n i j [])) (bufferConditions n s i j k len []) m f
 
   module _ (z : m ≡ 0) where
-    past-ends : (y : ℕ) → First (numberConditions n s i j k len []) y → First (beforeWalk n s i j k len) y
-    past-ends y = first-after (sized n s (vertexConditions n i j [])) (numberConditions n s i j k len []) m y refl f z
+    past-ends : (y : ℕ) → First (bufferConditions n s i j k len []) y → First (beforeWalk n s i j k len) y
+    past-ends y = first-after (sized n s (vertexConditions n i j [])) (bufferConditions n s i j k len []) m y refl f z
 
     pub walk-buffer : len < n → First (beforeWalk n s i j k len) 10
     walk-buffer h = past-ends 10 (inl (h, refl))
@@ -105,7 +105,7 @@ module _ (n : ℕ) (s : Lent) (i j k len m : ℕ) (f : First (sized n s (vertexC
 -- 0 says that the sheet has the shape and both vertices, and that the buffer is long enough
 pub walk-ready : (n : ℕ) (s : Lent) (i j k len m : ℕ) → First (beforeWalk n s i j k len) m → m ≡ 0 → Lends n s × (i < n) × (j < n) × (n ≤ len)
 walk-ready n s i j k len m f z =
-    let cs : Conditions = numberConditions n s i j k len [] in
+    let cs : Conditions = bufferConditions n s i j k len [] in
     let g : First (beforeWalk n s i j k len) 0 = rw z at f in
     let shape = accepted-shape n s (vertexConditions n i j cs) g in
     let ends = vertex-below n i j cs (shape-rest n s shape (vertexConditions n i j cs) 0 g) in

@@ -1,6 +1,6 @@
 pub mod CheckLaws
 pub mod CallLaws
 pub mod PathLaws
-pub mod NumberLaws
+pub mod PassedLaws
 pub mod StepLaws
 pub mod AsideLaws

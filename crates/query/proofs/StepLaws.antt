@@ -11,7 +11,7 @@ use Rattle.word.specs.Bit.{Lowest, LowestCleared}
 use Rattle.word.proofs.VisitLaws.{Visiting, Passes, visiting-low, visiting-here, visiting-more, visiting-done}
 use Rattle.sheet_theory.specs.Layout.{rowAt, countAt, edgeAt}
 use Rattle.sheet_theory.proofs.ValidLaws.{edge-le}
-use Rattle.query_theory.specs.Number.{passed}
+use Rattle.query_theory.specs.PassedOver.{passed}
 use Rattle.query.specs.Internal.{Stepped}
 use Rattle.query_theory.proofs.WalkLaws.{passed-skip, passed-next, tried-goes, tried-passes}
 

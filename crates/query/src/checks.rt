@@ -54,7 +54,7 @@ pub(crate) fn without_number(
     0
 }
 
-// The number by which a path by number is refused before it is walked: 1, 2, 3, 10, 11, or 0.
+// The number by which the path of a rank is refused before it is walked: 1, 2, 3, 10, 11, or 0.
 pub(crate) fn walk_number(
     n: usize,
     sheet: &[u64],

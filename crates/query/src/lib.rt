@@ -1,4 +1,4 @@
-// Questions of a sheet: whether there is a path without an edge, the path by a number, and the number of a path. The calls of this
+// Questions of a sheet: whether there is a path without an edge, the path of a rank, and the rank of a path. The calls of this
 // file answer every n, every length, all words and all bytes.
 ghost use mathlib.Core.Path.{_≡_};
 ghost use Prim.Native.Nat.{_<_};
@@ -14,7 +14,7 @@ use sheet::Sheet;
 use sheet::layout;
 
 mod checks;
-mod number;
+mod passed;
 mod walk;
 
 // The product of the counts to an edge and from it, modulo 2^64; on a valid sheet, the number of paths that use the edge.
@@ -50,7 +50,7 @@ pub fn reaches_without(
     Answer::accepted(1)
 }
 
-// The walk from one vertex to another by the number k, written to the first bytes of `path`, one byte a vertex (document 01: a
+// The walk from one vertex to another by the rank k, written to the first bytes of `path`, one byte a vertex (document 01: a
 // route by number); on a valid sheet, the path that has k paths before it.
 // Refused by 1, 2, 3, 10, 11, 9. The value is the number of vertices written.
 pub fn unrank(n: usize, sheet: &[u64], from: usize, to: usize, k: u64, path: &mut [u8]) -> Answer
@@ -79,5 +79,5 @@ pub fn rank(n: usize, sheet: &[u64], path: &[u8]) -> Answer
     if number != 0 {
         return Answer::refused(number);
     }
-    Answer::accepted(number::path_number(n, sheet, path))
+    Answer::accepted(passed::path_rank(n, sheet, path))
 }

@@ -1,4 +1,4 @@
-// The walk by a number: from each vertex its edges are tried in ascending order, and the counts passed over are taken off.
+// The walk by a rank: from each vertex its edges are tried in ascending order, and the counts passed over are taken off.
 ghost use mathlib.Core.Path.{_≡_};
 ghost use Prim.Native.Nat.{_<_};
 ghost use lib.ListN.{length};
@@ -7,13 +7,13 @@ ghost use Rattle.query.specs.Internal.{Stepped, WalkKept};
 use sheet::Sheet;
 use sheet::layout;
 
-// Where a walk goes next, and what is left of the number.
+// Where a walk goes next, and what is left of the rank.
 struct Next {
     vertex: usize,
     left: u64,
 }
 
-// The step from vertex i of a walk to a vertex by the number k; to n, if no edge fits.
+// The step from vertex i of a walk to a vertex by the rank k; to n, if no edge fits.
 fn step(n: usize, sheet: &[u64], i: usize, to: usize, k: u64) -> Next
     requires { ⌜ (Shape n (now sheet)) × (i < n) × (to < n) ⌝ }
     ensures { λ r. ⌜ Stepped n (now (sheet .entry)) i to k r ⌝ }
@@ -32,7 +32,7 @@ fn step(n: usize, sheet: &[u64], i: usize, to: usize, k: u64) -> Next
     Next { vertex: n, left }
 }
 
-// The walk, written to `aside`: how many vertices it has, and 0 if it does not arrive with the number at 0.
+// The walk, written to `aside`: how many vertices it has, and 0 if it does not arrive with the rank at 0.
 pub(crate) fn walk_aside(
     n: usize,
     sheet: &[u64],

@@ -10,7 +10,7 @@ use Rattle.sheet_theory.specs.Layout.{size}
 use Rattle.sheet_theory.specs.Lent.{lent}
 use Rattle.sheet_theory.proofs.Examples.{D}
 use Rattle.query_theory.specs.Walk.{headed, tryEdge, tried, walked}
-use Rattle.query_theory.specs.Number.{passed, passedOver, end}
+use Rattle.query_theory.specs.PassedOver.{passed, passedOver, end}
 use Rattle.query_theory.specs.ReachesWithout.{reachesWithout, reachesWithoutAnswer}
 use Rattle.query_theory.specs.Unrank.{walk, unrankAnswer}
 use Rattle.query_theory.specs.Rank.{someNoVertex, gap, broken, rankAnswer}
@@ -37,7 +37,7 @@ pub vertex-before-buffer : unrankAnswer 5 (lent D) 5 3 2 4 ≡ answer 3 0 0
 unfolding D size firstTrue
 vertex-before-buffer = refl
 
--- ---- a number that is carried on: 0 to 1, 1 to 2 and 3, 2 to 4, 3 to 4
+-- ---- a rank that is carried on: 0 to 1, 1 to 2 and 3, 2 to 4, 3 to 4
 
 pub carrying : List ℕ
 carrying =
@@ -78,7 +78,7 @@ pub left-over : unrankAnswer 2 (lent (pair 2)) 0 1 1 2 ≡ answer 9 0 0
 unfolding pair size firstTrue walked tried tryEdge headed
 left-over = refl
 
--- a number of 2 ^ 64 and more is taken modulo 2 ^ 64: 0 to 0, 1 and 2, and the counts to 2 from 0 and from 1 are 2 ^ 63 and 2 ^ 63 + 5
+-- a rank of 2 ^ 64 and more is taken modulo 2 ^ 64: 0 to 0, 1 and 2, and the counts to 2 from 0 and from 1 are 2 ^ 63 and 2 ^ 63 + 5
 pub over : List ℕ
 over = 7 ∷ 0 ∷ 0 ∷ 0 ∷ 0 ∷ 9223372036854775808 ∷ 0 ∷ 0 ∷ 9223372036854775813 ∷ 0 ∷ 0 ∷ 0 ∷ []
 

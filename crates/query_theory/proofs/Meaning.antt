@@ -10,7 +10,7 @@ use native.Mathlib.Decide.{ℕ-discrete, decLt}
 use native.Mathlib.Omega.{arith}
 use lib.ListN.{length, take, drop}
 use lib.Seq.{take-append-seam}
-use Rattle.graph.specs.Graph.{Exactly, Edge, Walk, IsPath}
+use Rattle.graph.specs.Graph.{Edge, Walk, IsPath, PathsExactly, PathsWithExactly}
 use Rattle.graph.specs.Count.{pathCount}
 use Rattle.graph.specs.Uses.{Uses, oneEdge}
 use Rattle.graph.proofs.Lists.{exactly-only}
@@ -29,9 +29,9 @@ use Rattle.answer.proofs.ByNumber.{conditionOf, before, first-not, first-when}
 use Rattle.sheet_theory.proofs.ShapeLaws.{shape-not, shape-passed, shape-rest}
 use Rattle.sheet_theory.proofs.ValidLaws.{edge-le, valid-count}
 use Rattle.query_theory.specs.Before.{Before}
-use Rattle.query_theory.specs.Number.{passedOver, end}
+use Rattle.query_theory.specs.PassedOver.{passedOver, end}
 use Rattle.query_theory.specs.ReachesWithout.{edgeConditions, reachesWithoutNumber, product, reachesWithoutAnswer, PathWithout}
-use Rattle.query_theory.specs.Unrank.{walk, numberConditions, walkConditions, unrankConditions, unrankNumber, unrankAnswer, unrankAfter, wrote}
+use Rattle.query_theory.specs.Unrank.{walk, bufferConditions, walkConditions, unrankConditions, unrankNumber, unrankAnswer, unrankAfter, wrote}
 use Rattle.query_theory.specs.Rank.{SomeNoVertex, Gap, Broken, pathConditions, rankAnswer}
 use Rattle.query_theory.proofs.RankLaws.{walked-finds, path-ends, passed-over-lt, path-walked, walked-path, before-exactly}
 use Rattle.query_theory.proofs.WithoutLaws.{without-no, without-yes}
@@ -100,7 +100,7 @@ module _ (n : ℕ) (s : Lent) where
         below = lt-of-not-le (none 11 refl refl);
       }
 
-  -- the number of what is written by k is k
+  -- the rank of what is written by k is k
   pub rank-unrank : (i j k : ℕ) (buffer : List ℕ) → k < 2 ^ 64 → unrankAnswer n s i j k (length buffer) .number ≡ 0
       → rankAnswer n s (wrote n s i j k buffer) ≡ answer 0 0 k
   rank-unrank i j k buffer small z =
@@ -110,27 +110,27 @@ module _ (n : ℕ) (s : Lent) where
         | inr f ↦
             ap (rankAnswer n s) (wrote-walk i j k buffer z ∙ f .vertices)
             ∙ walk-ranked (a .shape) i (f .l) j (a .from) (f .walk) (f .short)
-            ∙ ap (answer 0 0) (ap (λ x. x % 2 ^ 64) (f .number) ∙ mod-eq-of-lt small)
+            ∙ ap (answer 0 0) (ap (λ x. x % 2 ^ 64) (f .rank) ∙ mod-eq-of-lt small)
       ]
 
 module _ (n : ℕ) (s : Lent) (valid : Valid n s) where
-  -- the number of a path to j
-  abbrev number : ℕ → List ℕ → ℕ
-  number j l = passedOver (edgeAt (s .words)) (countAt n (s .words)) j l
+  -- the rank of a path to j
+  abbrev rankTo : ℕ → List ℕ → ℕ
+  rankTo j l = passedOver (edgeAt (s .words)) (countAt n (s .words)) j l
 
-  -- the walk by a number below the count is a path, and its number is that number
-  walk-path-over : (i j k : ℕ) → i < n → j < n → k < countAt n (s .words) i j → IsPath n (edgeAt (s .words)) i j (walk n (s .words) i j k) × (number j (walk n (s .words) i j k) ≡ k)
+  -- the walk by a rank below the count is a path, and its rank is that rank
+  walk-path-over : (i j k : ℕ) → i < n → j < n → k < countAt n (s .words) i j → IsPath n (edgeAt (s .words)) i j (walk n (s .words) i j k) × (rankTo j (walk n (s .words) i j k) ≡ k)
   walk-path-over = walked-path n (edgeAt (s .words)) (countAt n (s .words)) (valid .acyclic) (edge-le (s .words)) (valid-count n s valid)
 
-  -- the walk by the number of a path is that path
-  walk-number : (i j : ℕ) (l : List ℕ) → IsPath n (edgeAt (s .words)) i j l → walk n (s .words) i j (number j l) ≡ l
-  walk-number = path-walked n (edgeAt (s .words)) (countAt n (s .words)) (valid .acyclic) (edge-le (s .words)) (valid-count n s valid)
+  -- the walk by the rank of a path is that path
+  walk-rank : (i j : ℕ) (l : List ℕ) → IsPath n (edgeAt (s .words)) i j l → walk n (s .words) i j (rankTo j l) ≡ l
+  walk-rank = path-walked n (edgeAt (s .words)) (countAt n (s .words)) (valid .acyclic) (edge-le (s .words)) (valid-count n s valid)
 
-  number-lt : (i j : ℕ) (l : List ℕ) → IsPath n (edgeAt (s .words)) i j l → number j l < countAt n (s .words) i j
-  number-lt = passed-over-lt n (edgeAt (s .words)) (countAt n (s .words)) (valid .acyclic) (edge-le (s .words)) (valid-count n s valid)
+  rank-lt : (i j : ℕ) (l : List ℕ) → IsPath n (edgeAt (s .words)) i j l → rankTo j l < countAt n (s .words) i j
+  rank-lt = passed-over-lt n (edgeAt (s .words)) (countAt n (s .words)) (valid .acyclic) (edge-le (s .words)) (valid-count n s valid)
 
-  number-exactly : (i j : ℕ) (l : List ℕ) → IsPath n (edgeAt (s .words)) i j l → Exactly (λ p. IsPath n (edgeAt (s .words)) i j p × Before p l) (number j l)
-  number-exactly = before-exactly n (edgeAt (s .words)) (countAt n (s .words)) (valid .acyclic) (edge-le (s .words)) (valid-count n s valid)
+  rank-exactly : (i j : ℕ) (l : List ℕ) → IsPath n (edgeAt (s .words)) i j l → PathsWithExactly n (edgeAt (s .words)) i j (λ p. Before p l) (rankTo j l)
+  rank-exactly = before-exactly n (edgeAt (s .words)) (countAt n (s .words)) (valid .acyclic) (edge-le (s .words)) (valid-count n s valid)
 
   -- ---- reaches_without
 
@@ -144,7 +144,7 @@ module _ (n : ℕ) (s : Lent) (valid : Valid n s) where
         rw (valid-count n s valid i u hi hu, valid-count n s valid v j hv hj) (mod-eq-of-lt (omega arith))
 
     -- the paths that use the edge are exactly the product
-    pub reaches-without-uses : Exactly (λ p. IsPath n (multAt n s) i j p × Uses (oneEdge u v) p) (product n (s .words) i j u v)
+    pub reaches-without-uses : PathsWithExactly n (multAt n s) i j (Uses (oneEdge u v)) (product n (s .words) i j u v)
     reaches-without-uses =
         rw product-fits (paths-through n (edgeAt (s .words)) (valid .acyclic) (λ x y hx hy. edge-le (s .words) x y) u v hu hv edge i j hi hj)
 
@@ -186,9 +186,9 @@ module _ (n : ℕ) (s : Lent) (valid : Valid n s) where
 
     -- the conditions past the vertices
     abbrev past : Conditions
-    past = numberConditions n s i j k len (walkConditions n s i j k)
+    past = bufferConditions n s i j k len (walkConditions n s i j k)
 
-    -- with a buffer of n bytes or more, a number below the count is accepted
+    -- with a buffer of n bytes or more, a rank below the count is accepted
     unrank-good : n ≤ len → k < countAt n (s .words) i j → unrankNumber n s i j k len ≡ 0
     unrank-good room h =
         let p = walk-path-over i j k hi hj h .0 in
@@ -196,25 +196,25 @@ module _ (n : ℕ) (s : Lent) (valid : Valid n s) where
         (shape-passed n s (valid .shape) (vertexConditions n i j past) 0 (inr (vertices, inr ((λ l. omega arith), inr ((λ l. omega arith), inr ((λ e. rw e at p), refl))))))
 
     -- 11 exactly if k is not below the number of paths
-    pub unrank-beyond-iff : n ≤ len → (c : ℕ) → Exactly (IsPath n (edgeAt (s .words)) i j) c → (unrankAnswer n s i j k len .number ≡ 11) ↔ (c < k + 1)
+    pub unrank-beyond-iff : n ≤ len → (c : ℕ) → PathsExactly n (edgeAt (s .words)) i j c → (unrankAnswer n s i j k len .number ≡ 11) ↔ (c < k + 1)
     unrank-beyond-iff room c x =
         let e : c ≡ countAt n (s .words) i j = exactly-only x (valid .counts i j hi hj) in
         let f = shape-rest n s (valid .shape) (vertexConditions n i j past) _ (unrank-first n s i j k len) in
         let r = first-when (vertexConditions n i j past) _ 11 f (vertices, ((λ l. omega arith), tt)) refl in
         (λ q. omega (arith, r .0 q), λ h. r .1 (omega arith))
 
-  -- UNRANK: by a number below the count a path is written that has exactly that many paths before it
+  -- UNRANK: by a rank below the count a path is written that has exactly that many paths before it
   pub unrank-exact : (i j k : ℕ) (buffer : List ℕ) → i < n → j < n → n ≤ length buffer → k < countAt n (s .words) i j
       → (unrankAnswer n s i j k (length buffer) .number ≡ 0) × IsPath n (edgeAt (s .words)) i j (wrote n s i j k buffer)
-      × Exactly (λ p. IsPath n (edgeAt (s .words)) i j p × Before p (wrote n s i j k buffer)) k
+      × PathsWithExactly n (edgeAt (s .words)) i j (λ p. Before p (wrote n s i j k buffer)) k
   unrank-exact i j k buffer hi hj room h =
       let z = unrank-good i j k (length buffer) hi hj room h in
       let r = walk-path-over i j k hi hj h in
       let l = walk n (s .words) i j k in
-      let before : Exactly (λ p. IsPath n (edgeAt (s .words)) i j p × Before p l) k
-      = subst (Exactly (λ p. IsPath n (edgeAt (s .words)) i j p × Before p l)) (r .1) (number-exactly i j l (r .0)) in
+      let before : PathsWithExactly n (edgeAt (s .words)) i j (λ p. Before p l) k
+      = subst (PathsWithExactly n (edgeAt (s .words)) i j (λ p. Before p l)) (r .1) (rank-exactly i j l (r .0)) in
       let e = sym (wrote-walk n s i j k buffer z) in
-      (z, subst (IsPath n (edgeAt (s .words)) i j) e (r .0), subst (λ (x : List ℕ). Exactly (λ p. IsPath n (edgeAt (s .words)) i j p × Before p x) k) e before)
+      (z, subst (IsPath n (edgeAt (s .words)) i j) e (r .0), subst (λ (x : List ℕ). PathsWithExactly n (edgeAt (s .words)) i j (λ p. Before p x) k) e before)
 
   -- the walk on a valid sheet always arrives
   pub unrank-arrives : (i j k len : ℕ) → ¬ (unrankAnswer n s i j k len .number ≡ 9)
@@ -222,49 +222,49 @@ module _ (n : ℕ) (s : Lent) (valid : Valid n s) where
       let r = asked n s i j k len 9 (inr refl) e in
       omega (arith, e, unrank-good i j k len (r .from) (r .to) (r .room) (r .below))
 
-  -- each path is written for one number and no other
+  -- each path is written for one rank and no other
   pub unrank-every : (i j : ℕ) (buffer : List ℕ) → n ≤ length buffer → (l : List ℕ) → IsPath n (edgeAt (s .words)) i j l →
       let Writes : ℕ → Type 0 = λ k. (unrankAnswer n s i j k (length buffer) .number ≡ 0) × (wrote n s i j k buffer ≡ l) in
       (k : ℕ) × Writes k × ((k′ : ℕ) → Writes k′ → k′ ≡ k)
   unrank-every i j buffer room l p =
       let h = path-ends n (edgeAt (s .words)) i j l p in
-      let z = unrank-good i j (number j l) (length buffer) (h .0) (h .1) room (number-lt i j l p) in (
-        number j l,
-        (z, wrote-walk n s i j (number j l) buffer z ∙ walk-number i j l p),
+      let z = unrank-good i j (rankTo j l) (length buffer) (h .0) (h .1) room (rank-lt i j l p) in (
+        rankTo j l,
+        (z, wrote-walk n s i j (rankTo j l) buffer z ∙ walk-rank i j l p),
         λ k′ q.
             let r = asked n s i j k′ (length buffer) 0 (inl refl) (q .0) in
-            sym (walk-path-over i j k′ (r .from) (r .to) (r .below) .1) ∙ ap (number j) (sym (wrote-walk n s i j k′ buffer (q .0)) ∙ q .1),
+            sym (walk-path-over i j k′ (r .from) (r .to) (r .below) .1) ∙ ap (rankTo j) (sym (wrote-walk n s i j k′ buffer (q .0)) ∙ q .1),
       )
 
   -- ---- rank
 
-  -- with up to 64 vertices the number fits a word
-  number-fits : (i j : ℕ) (l : List ℕ) → IsPath n (edgeAt (s .words)) i j l → number j l % 2 ^ 64 ≡ number j l
-  number-fits i j l p =
+  -- with up to 64 vertices the rank fits a word
+  rank-fits : (i j : ℕ) (l : List ℕ) → IsPath n (edgeAt (s .words)) i j l → rankTo j l % 2 ^ 64 ≡ rankTo j l
+  rank-fits i j l p =
       let h = path-ends n (edgeAt (s .words)) i j l p in
-      mod-eq-of-lt (lt-trans (number-lt i j l p)
+      mod-eq-of-lt (lt-trans (rank-lt i j l p)
       (paths-below n (edgeAt (s .words)) (valid .acyclic) (valid .shape .high) i j (countAt n (s .words) i j) (h .0) (h .1) (valid .counts i j (h .0) (h .1))))
 
-  -- so a path is accepted, with its number
-  rank-answer : (i j : ℕ) (l : List ℕ) → IsPath n (edgeAt (s .words)) i j l → rankAnswer n s l ≡ answer 0 0 (number j l)
+  -- so a path is accepted, with its rank
+  rank-answer : (i j : ℕ) (l : List ℕ) → IsPath n (edgeAt (s .words)) i j l → rankAnswer n s l ≡ answer 0 0 (rankTo j l)
   rank-answer i j [] p = absurd p
   rank-answer i j (a ∷ l) p =
-      walk-ranked n s (valid .shape) a l j (p .1) (p .2) (path-length-le n (edgeAt (s .words)) i j (a ∷ l) p) ∙ ap (answer 0 0) (number-fits i j (a ∷ l) p)
+      walk-ranked n s (valid .shape) a l j (p .1) (p .2) (path-length-le n (edgeAt (s .words)) i j (a ∷ l) p) ∙ ap (answer 0 0) (rank-fits i j (a ∷ l) p)
 
   -- RANK: the value is exactly how many paths are before it
   pub rank-exact : (i j : ℕ) (l : List ℕ) → IsPath n (edgeAt (s .words)) i j l
-      → (rankAnswer n s l .number ≡ 0) × Exactly (λ p. IsPath n (edgeAt (s .words)) i j p × Before p l) (rankAnswer n s l .value)
+      → (rankAnswer n s l .number ≡ 0) × PathsWithExactly n (edgeAt (s .words)) i j (λ p. Before p l) (rankAnswer n s l .value)
   rank-exact i j l p =
-      subst (λ (r : Answer). (r .number ≡ 0) × Exactly (λ p. IsPath n (edgeAt (s .words)) i j p × Before p l) (r .value))
-      (sym (rank-answer i j l p)) (refl, number-exactly i j l p)
+      subst (λ (r : Answer). (r .number ≡ 0) × PathsWithExactly n (edgeAt (s .words)) i j (λ p. Before p l) (r .value))
+      (sym (rank-answer i j l p)) (refl, rank-exactly i j l p)
 
-  -- what is written by the number of a path is that path
+  -- what is written by the rank of a path is that path
   pub unrank-rank : (i j : ℕ) (l buffer : List ℕ) → IsPath n (edgeAt (s .words)) i j l → n ≤ length buffer →
       let k : ℕ = rankAnswer n s l .value in
       (unrankAnswer n s i j k (length buffer) ≡ answer 0 0 (length l)) × (unrankAfter n s i j k buffer ≡ written l buffer)
   unrank-rank i j l buffer p room =
       let h = path-ends n (edgeAt (s .words)) i j l p in
-      let u = unrank-answer n s i j (number j l) buffer (unrank-good i j (number j l) (length buffer) (h .0) (h .1) room (number-lt i j l p)) in
-      let e = walk-number i j l p in
+      let u = unrank-answer n s i j (rankTo j l) buffer (unrank-good i j (rankTo j l) (length buffer) (h .0) (h .1) room (rank-lt i j l p)) in
+      let e = walk-rank i j l p in
       subst (λ (r : Answer). (unrankAnswer n s i j (r .value) (length buffer) ≡ answer 0 0 (length l)) × (unrankAfter n s i j (r .value) buffer ≡ written l buffer))
       (sym (rank-answer i j l p)) (u .0 ∙ ap (λ x. answer 0 0 (length x)) e, u .1 ∙ ap (λ x. written x buffer) e)

@@ -1,5 +1,5 @@
--- The number of a walk that arrives is the number that it was walked by, whatever the edges and counts. Where there is no cycle and the
--- counts are the numbers of paths, the walk by the number of a path is that path, and its number is how many paths are before it. Assumes
+-- The rank of a walk that arrives is the rank that it was walked by, whatever the edges and counts. Where there is no cycle and the
+-- counts are the numbers of paths, the walk by the rank of a path is that path, and its rank is how many paths are before it. Assumes
 -- nothing.
 use mathlib.Core.Path.{_≡_, refl, sym, ap, _∙_}
 use mathlib.Core.Logic.{_⊎_, inl, inr, _↔_}
@@ -10,7 +10,7 @@ use native.Mathlib.Omega.{arith}
 use lib.ListN.{length}
 use Rattle.sums.specs.Sum.{sum}
 use Rattle.sums.proofs.SumLaws.{sum-cong, delta-diff}
-use Rattle.graph.specs.Graph.{Exactly, Walk, IsPath, Acyclic}
+use Rattle.graph.specs.Graph.{Walk, IsPath, PathsWithExactly, Acyclic}
 use Rattle.graph.specs.Count.{pathCount}
 use Rattle.graph.proofs.Lists.{exactly-below}
 use Rattle.graph.proofs.Walks.{walk-below, walk-end, path-length-le, cycle-of}
@@ -19,7 +19,7 @@ use Rattle.graph.proofs.Recurrence.{pathCount-recurrence, pathCount-self}
 use Rattle.graph.proofs.Counting.{walk-path}
 use Rattle.query_theory.specs.Before.{Before}
 use Rattle.query_theory.specs.Walk.{Turn, goes, passes, headed, tried, walked}
-use Rattle.query_theory.specs.Number.{passed, passedOver}
+use Rattle.query_theory.specs.PassedOver.{passed, passedOver}
 use Rattle.query_theory.proofs.WalkLaws.{walked-none, walked-here, walked-left, walked-goes, walked-passes, passed-within, tried-goes, tried-of, tried-below}
 use Rattle.query_theory.proofs.BeforeLaws.{before-total}
 
@@ -34,17 +34,17 @@ path-ends n w i j (a ∷ l) p = (
 -- ---- any tables of edges and of counts
 
 module _ (n : ℕ) (w C : ℕ → ℕ → ℕ) (one : (i a : ℕ) → w i a ≤ 1) where
-  -- the walk from i by the number k, of at most m vertices, is i and then l, a walk to j whose number is k
+  -- the walk from i by the rank k, of at most m vertices, is i and then l, a walk to j whose rank is k
   pub record Finds (m i j k : ℕ) : Type 0 where
     pub l : List ℕ
     pub vertices : walked w C j n m i k ≡ i ∷ l
     pub walk : Walk n w i l j
-    pub number : passedOver w C j (i ∷ l) ≡ k
+    pub rank : passedOver w C j (i ∷ l) ≡ k
     pub short : length l < m
 
   finds-here : (m i j k : ℕ) → i ≡ j → k ≡ 0 → Finds (suc m) i j k
   unfolding passedOver
-  finds-here m i j k e z = record { l = []; vertices = walked-here n w C j m i k e z; walk = e; number = sym z; short = omega arith }
+  finds-here m i j k e z = record { l = []; vertices = walked-here n w C j m i k e z; walk = e; rank = sym z; short = omega arith }
 
   finds-next : (m i j k b k′ : ℕ) → ¬ (i ≡ j) → tried w C j i k n ≡ goes b k′ → Finds m b j k′ → Finds (suc m) i j k
   unfolding passedOver headed
@@ -54,7 +54,7 @@ module _ (n : ℕ) (w C : ℕ → ℕ → ℕ) (one : (i a : ℕ) → w i a ≤ 
         l = b ∷ r .l;
         vertices = walked-goes n w C j m i k b k′ away t ∙ ap (headed i) (r .vertices);
         walk = (f .0, f .1, r .walk);
-        number = ap (λ x. passed w C j i b + x) (r .number) ∙ sym (f .2);
+        rank = ap (λ x. passed w C j i b + x) (r .rank) ∙ sym (f .2);
         short = omega (arith, r .short);
       }
 
@@ -96,7 +96,7 @@ module _ (n : ℕ) (w C : ℕ → ℕ → ℕ) (acyclic : Acyclic n w) (one : (i
 
   -- ---- walks: a path is one
 
-  -- the number of a walk is below the count
+  -- the rank of a walk is below the count
   walk-over-lt : (i : ℕ) (l : List ℕ) (j : ℕ) → i < n → j < n → Walk n w i l j → passedOver w C j (i ∷ l) < C i j
   unfolding passedOver
   walk-over-lt i [] j hi hj e = omega (arith, count-self i j hi e)
@@ -107,7 +107,7 @@ module _ (n : ℕ) (w C : ℕ → ℕ → ℕ) (acyclic : Acyclic n w) (one : (i
         passed-within n w C j one i b n (passedOver w C j (b ∷ l)) (p .1) (p .0) (walk-over-lt b l j (p .0) hj (p .2)),
       )
 
-  -- the walk by the number of a walk is that walk
+  -- the walk by the rank of a walk is that walk
   over-walked : (m i : ℕ) (l : List ℕ) (j : ℕ) → i < n → j < n → Walk n w i l j → length l < m → walked w C j n m i (passedOver w C j (i ∷ l)) ≡ i ∷ l
   unfolding passedOver headed
   over-walked zero i l j hi hj p h = absurd (omega arith)
@@ -118,7 +118,7 @@ module _ (n : ℕ) (w C : ℕ → ℕ → ℕ) (acyclic : Acyclic n w) (one : (i
       (tried-goes n w C j one i (passed w C j i b + k) b k (p .0) (p .1) refl (walk-over-lt b l j (p .0) hj (p .2)))
       ∙ ap (headed i) (over-walked m b l j (p .0) hj (p .2) (omega arith))
 
-  -- so for every number below the count
+  -- so for every rank below the count
   walked-over : (m i j k : ℕ) → Deep n w m i → i < n → j < n → k < C i j → Finds n w C one m i j k
   walked-over zero i j k d hi hj h = absurd d
   walked-over (suc m) i j k d hi hj h =
@@ -130,7 +130,7 @@ module _ (n : ℕ) (w C : ℕ → ℕ → ℕ) (acyclic : Acyclic n w) (one : (i
             finds-next n w C one m i j k (t .0) (t .1) away (t .2) (walked-over m (t .0) j (t .1) (d (t .0) (f .0) (f .1)) (f .0) hj (f .3))
       ]
 
-  -- of two walks with the same ends the one before the other has the lower number
+  -- of two walks with the same ends the one before the other has the lower rank
   walk-before-lt : (i : ℕ) (l m : List ℕ) (j : ℕ) → i < n → j < n → Walk n w i l j → Walk n w i m j → Before l m
       → passedOver w C j (i ∷ l) < passedOver w C j (i ∷ m)
   unfolding passedOver
@@ -147,23 +147,23 @@ module _ (n : ℕ) (w C : ℕ → ℕ → ℕ) (acyclic : Acyclic n w) (one : (i
 
   -- ---- paths
 
-  -- the number of a path is below the count
+  -- the rank of a path is below the count
   pub passed-over-lt : (i j : ℕ) (l : List ℕ) → IsPath n w i j l → passedOver w C j l < C i j
   passed-over-lt i j [] p = absurd p
   passed-over-lt i j (a ∷ l) p = let h = path-ends n w i j (a ∷ l) p in rw (← p .0) (walk-over-lt a l j (p .1) (h .1) (p .2))
 
-  -- the walk by the number of a path is that path
+  -- the walk by the rank of a path is that path
   pub path-walked : (i j : ℕ) (l : List ℕ) → IsPath n w i j l → walked w C j n n i (passedOver w C j l) ≡ l
   path-walked i j [] p = absurd p
   path-walked i j (a ∷ l) p =
       let h = path-ends n w i j (a ∷ l) p in
       rw (← p .0) (over-walked n a l j (p .1) (h .1) (p .2) (path-length-le n w i j (a ∷ l) p))
 
-  -- the walk by a number below the count is a path, and its number is that number
+  -- the walk by a rank below the count is a path, and its rank is that rank
   pub walked-path : (i j k : ℕ) → i < n → j < n → k < C i j → IsPath n w i j (walked w C j n n i k) × (passedOver w C j (walked w C j n n i k) ≡ k)
   walked-path i j k hi hj h =
       let r = walked-over n i j k (deep n w acyclic i hi) hi hj h in
-      rw (r .vertices) (walk-path n w acyclic i (r .l) j hi (r .walk), r .number)
+      rw (r .vertices) (walk-path n w acyclic i (r .l) j hi (r .walk), r .rank)
 
   before-lt : (i j : ℕ) (l m : List ℕ) → IsPath n w i j l → IsPath n w i j m → Before l m → passedOver w C j l < passedOver w C j m
   before-lt i j [] m p q h = absurd p
@@ -175,7 +175,7 @@ module _ (n : ℕ) (w C : ℕ → ℕ → ℕ) (acyclic : Acyclic n w) (one : (i
       let hj = path-ends n w i j (a ∷ l) p .1 in
       omega (arith, e, walk-before-lt a l m j (p .1) hj (p .2) (rw s (q .2)) b)
 
-  -- of two paths with the same ends the one before the other has the lower number, and the other way round
+  -- of two paths with the same ends the one before the other has the lower rank, and the other way round
   pub before-iff : (i j : ℕ) (l m : List ℕ) → IsPath n w i j l → IsPath n w i j m → Before l m ↔ (passedOver w C j l < passedOver w C j m)
   before-iff i j l m p q = (
     before-lt i j l m p q,
@@ -186,7 +186,7 @@ module _ (n : ℕ) (w C : ℕ → ℕ → ℕ) (acyclic : Acyclic n w) (one : (i
   )
 
   -- THE NUMBER OF A PATH is how many paths with its ends are before it
-  pub before-exactly : (i j : ℕ) (l : List ℕ) → IsPath n w i j l → Exactly (λ p. IsPath n w i j p × Before p l) (passedOver w C j l)
+  pub before-exactly : (i j : ℕ) (l : List ℕ) → IsPath n w i j l → PathsWithExactly n w i j (λ p. Before p l) (passedOver w C j l)
   before-exactly i j l p =
       let h = path-ends n w i j l p in
       let r : (k : ℕ) → k < passedOver w C j l → IsPath n w i j (walked w C j n n i k) × (passedOver w C j (walked w C j n n i k) ≡ k)

@@ -18,7 +18,7 @@ use Rattle.answer.proofs.TableLaws.{Agree, reflects-none, reflects-iff, reflect
 use Rattle.sheet_theory.proofs.ShapeLaws.{sized-agree, vertices-agree}
 use Rattle.answer.proofs.AnswerLaws.{answered-not, decided-old}
 use Rattle.query_theory.specs.ReachesWithout.{edgeConditions, edgeTests, reachesWithoutConditions, reachesWithoutNumber, reachesWithoutAnswer}
-use Rattle.query_theory.specs.Unrank.{walk, numberConditions, numberTests, walkConditions, walkTests, unrankConditions, unrankNumber, unrankAnswer, unrankAfter}
+use Rattle.query_theory.specs.Unrank.{walk, bufferConditions, bufferTests, walkConditions, walkTests, unrankConditions, unrankNumber, unrankAnswer, unrankAfter}
 use Rattle.query_theory.specs.Rank.{SomeNoVertex, someNoVertex, Gap, gap, Broken, broken, pathConditions, pathTests, rankConditions, rankNumber, rankAnswer}
 
 -- ---- tests that decide
@@ -72,8 +72,8 @@ module _ (n : ℕ) (s : Lent) where
 
   pub unrank-first : (i j k len : ℕ) → First (unrankConditions n s i j k len) (unrankNumber n s i j k len)
   unrank-first i j k len =
-      let cs : Conditions = numberConditions n s i j k len (walkConditions n s i j k) in
-      let ts : Tests = numberTests n s i j k len (walkTests n s i j k) in
+      let cs : Conditions = bufferConditions n s i j k len (walkConditions n s i j k) in
+      let ts : Tests = bufferTests n s i j k len (walkTests n s i j k) in
       past-shape (vertexConditions n i j cs) (vertexTests n i j ts)
       (vertices-agree n i j cs ts (reflects-lt len n, refl, λ p. (reflects-le _ _, refl, λ q. (empty-reflects (walk n (s .words) i j k), refl, λ r. tt))))
 

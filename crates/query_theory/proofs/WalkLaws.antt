@@ -1,4 +1,4 @@
--- The laws of trying edges, of the counts passed over, and of the walk by a number, for any tables of edges and of counts. Assumes
+-- The laws of trying edges, of the counts passed over, and of the walk by a rank, for any tables of edges and of counts. Assumes
 -- nothing.
 use mathlib.Core.Path.{_≡_, refl, ap}
 use mathlib.Core.Bool.{Bool, true, false, cond}
@@ -12,7 +12,7 @@ use lib.Dec.{ltb}
 use Rattle.sums.specs.Sum.{sum}
 use Rattle.sums.proofs.SumLaws.{sum-longer}
 use Rattle.query_theory.specs.Walk.{Turn, goes, passes, headed, tryEdge, tried, walked}
-use Rattle.query_theory.specs.Number.{passed}
+use Rattle.query_theory.specs.PassedOver.{passed}
 
 -- ---- the walk, by cases
 
@@ -109,7 +109,7 @@ module _ (n : ℕ) (w C : ℕ → ℕ → ℕ) (j : ℕ) (one : (i a : ℕ) → 
   pub tried-passes : (i k k′ : ℕ) → k ≡ passed w C j i n + k′ → tried w C j i k n ≡ passes k′
   tried-passes i k k′ e = passes-only i k k′ e (tried w C j i k n) (came i k n)
 
-  -- for a number below all counts that can be passed over the walk goes somewhere
+  -- for a rank below all counts that can be passed over the walk goes somewhere
   pub tried-below : (i k : ℕ) → k < passed w C j i n → (b : ℕ) × (k′ : ℕ) × (tried w C j i k n ≡ goes b k′)
   tried-below i k h = go (tried w C j i k n) refl
     where

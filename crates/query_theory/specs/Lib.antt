@@ -1,6 +1,6 @@
 pub mod Before
 pub mod Walk
-pub mod Number
+pub mod PassedOver
 pub mod ReachesWithout
 pub mod Unrank
 pub mod Rank

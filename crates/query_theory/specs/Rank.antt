@@ -1,4 +1,4 @@
--- `rank`: the number of a path among those between its ends (document 01: the number of a route): its conditions by the table of
+-- `rank`: the rank of a path among those between its ends (document 01: the number of a route): its conditions by the table of
 -- document 01, in their order, and its answer. Definitions only. Assumes nothing.
 use mathlib.Core.Path.{_≡_}
 use mathlib.Core.Logic.{_⊎_}
@@ -14,7 +14,7 @@ use Rattle.answer.specs.Answers.{answered}
 use Rattle.sheet_theory.specs.Layout.{countAt, edgeAt}
 use Rattle.sheet_theory.specs.Lent.{Lent}
 use Rattle.sheet_theory.specs.Conditions.{NoVertex, sized, sizedTests}
-use Rattle.query_theory.specs.Number.{passedOver, end}
+use Rattle.query_theory.specs.PassedOver.{passedOver, end}
 
 -- 3: some entry of the list, wherever it stands, is n or more
 abbrev pub SomeNoVertex : ℕ → List ℕ → Type 0
@@ -56,8 +56,8 @@ abbrev pub rankNumber : ℕ → Lent → List ℕ → ℕ
 rankNumber n s p = firstTrue (sizedTests n s (pathTests n s p))
 
 -- the sum of the counts to the end of the path that are passed over on it, over a sheet as it stands
-abbrev pub pathNumber : ℕ → List ℕ → List ℕ → ℕ
-pathNumber n s p = passedOver (edgeAt s) (countAt n s) (end p) p
+abbrev pub pathRank : ℕ → List ℕ → List ℕ → ℕ
+pathRank n s p = passedOver (edgeAt s) (countAt n s) (end p) p
 
 abbrev pub rankAnswer : ℕ → Lent → List ℕ → Answer
-rankAnswer n s p = answered (rankNumber n s p) (pathNumber n (s .words) p % 2 ^ 64)
+rankAnswer n s p = answered (rankNumber n s p) (pathRank n (s .words) p % 2 ^ 64)

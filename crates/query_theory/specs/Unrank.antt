@@ -1,4 +1,4 @@
--- `unrank`: the path from i to j by its number k, written to a buffer (document 01: a route by number): its conditions by the table of
+-- `unrank`: the path from i to j of rank k, written to a buffer (document 01: a route by number): its conditions by the table of
 -- document 01, in their order, its answer, and the buffer after it. Definitions only. Assumes nothing.
 use mathlib.Core.Path.{_≡_}
 use mathlib.Core.List.{List, [], _∷_}
@@ -14,16 +14,16 @@ use Rattle.sheet_theory.specs.Lent.{Lent}
 use Rattle.sheet_theory.specs.Conditions.{vertexConditions, vertexTests, sized, sizedTests}
 use Rattle.query_theory.specs.Walk.{walked}
 
--- the walk from i to j by the number k, over a sheet as it stands, of at most n vertices
+-- the walk from i to j by the rank k, over a sheet as it stands, of at most n vertices
 abbrev pub walk : ℕ → List ℕ → ℕ → ℕ → ℕ → List ℕ
 walk n s i j k = walked (edgeAt s) (countAt n s) j n n i k
 
--- of a buffer of len bytes and a number k, and then the conditions l. 10: the buffer is under n bytes. 11: k is not below the count.
-abbrev pub numberConditions : ℕ → Lent → ℕ → ℕ → ℕ → ℕ → Conditions → Conditions
-numberConditions n s i j k len l = (len < n) gives 10 ∷ (countAt n (s .words) i j ≤ k) gives 11 ∷ l
+-- of a buffer of len bytes and a rank k, and then the conditions l. 10: the buffer is under n bytes. 11: k is not below the count.
+abbrev pub bufferConditions : ℕ → Lent → ℕ → ℕ → ℕ → ℕ → Conditions → Conditions
+bufferConditions n s i j k len l = (len < n) gives 10 ∷ (countAt n (s .words) i j ≤ k) gives 11 ∷ l
 
-abbrev pub numberTests : ℕ → Lent → ℕ → ℕ → ℕ → ℕ → Tests → Tests
-numberTests n s i j k len l = ltb len n gives 10 ∷ leb (countAt n (s .words) i j) k gives 11 ∷ l
+abbrev pub bufferTests : ℕ → Lent → ℕ → ℕ → ℕ → ℕ → Tests → Tests
+bufferTests n s i j k len l = ltb len n gives 10 ∷ leb (countAt n (s .words) i j) k gives 11 ∷ l
 
 -- 9: no edge fits, n vertices without arriving, or k not 0 on arriving
 abbrev pub walkConditions : ℕ → Lent → ℕ → ℕ → ℕ → Conditions
@@ -33,10 +33,10 @@ abbrev pub walkTests : ℕ → Lent → ℕ → ℕ → ℕ → Tests
 walkTests n s i j k = eqb (length (walk n (s .words) i j k)) 0 gives 9 ∷ []
 
 abbrev pub unrankConditions : ℕ → Lent → ℕ → ℕ → ℕ → ℕ → Conditions
-unrankConditions n s i j k len = sized n s (vertexConditions n i j (numberConditions n s i j k len (walkConditions n s i j k)))
+unrankConditions n s i j k len = sized n s (vertexConditions n i j (bufferConditions n s i j k len (walkConditions n s i j k)))
 
 abbrev pub unrankNumber : ℕ → Lent → ℕ → ℕ → ℕ → ℕ → ℕ
-unrankNumber n s i j k len = firstTrue (sizedTests n s (vertexTests n i j (numberTests n s i j k len (walkTests n s i j k))))
+unrankNumber n s i j k len = firstTrue (sizedTests n s (vertexTests n i j (bufferTests n s i j k len (walkTests n s i j k))))
 
 abbrev pub unrankAnswer : ℕ → Lent → ℕ → ℕ → ℕ → ℕ → Answer
 unrankAnswer n s i j k len = answered (unrankNumber n s i j k len) (length (walk n (s .words) i j k))

@@ -1,4 +1,4 @@
--- The path from one vertex to another by its number, as document 01 walks it: over the edges w and the counts C as they stand, whether or
+-- The path from one vertex to another by its rank, as document 01 walks it: over the edges w and the counts C as they stand, whether or
 -- not these are numbers of paths. Definitions only. Assumes nothing.
 use mathlib.Core.Bool.{cond}
 use mathlib.Core.List.{List, [], _∷_}
@@ -28,7 +28,7 @@ module _ (w C : ℕ → ℕ → ℕ) (j : ℕ) where
   tried i k zero = passes k
   tried i k (suc b) = tryEdge i b (tried i k b)
 
-  -- The walk from i by the number k, in a graph of n vertices, of at most m vertices, i first. There are none where no edge fits, where m
+  -- The walk from i by the rank k, in a graph of n vertices, of at most m vertices, i first. There are none where no edge fits, where m
   -- vertices do not arrive, and where k is not 0 on arriving.
   unfoldable pub walked : ℕ → ℕ → ℕ → ℕ → List ℕ
   walked n zero i k = []

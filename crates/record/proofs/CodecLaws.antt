@@ -1,4 +1,4 @@
--- The ways out of `are_digits`, `number` and `decode`, and the tests of the bytes that their laws speak of. Assumes nothing.
+-- The ways out of `are_digits`, `from_digits` and `decode`, and the tests of the bytes that their laws speak of. Assumes nothing.
 use mathlib.Core.Path.{_≡_, refl, sym, ap, _∙_}
 use mathlib.Core.Bool.{Bool, true, false, not, cond, _&&_, and-assoc, and-eq-true-iff}
 use mathlib.Core.List.{List}
@@ -10,7 +10,7 @@ use lib.ListN.{length, getD, take}
 use lib.Seq.{length-take-le, take-all, getD-take}
 use Rattle.record.specs.declared.Record.{Record}
 use Rattle.record.specs.declared.Record.the-variants.{Malformed}
-use Rattle.record.specs.Record.{insertLetter, deleteLetter, areDigits, numberOf, byLetter, decoded, restFits, said}
+use Rattle.record.specs.Record.{insertLetter, deleteLetter, areDigits, fromDigits, byLetter, decoded, restFits, said}
 
 -- ---- are_digits: r is p and q, and four tests one after the other are s, which is the first two, and t, which is the first three
 
@@ -30,7 +30,7 @@ module _ (a b c d s t : Bool) (es : s ≡ (a && b)) (et : t ≡ (s && c)) where
   pub four-none : t ≡ false → t ≡ (a && (b && (c && d)))
   four-none h = h ∙ sym (all-four ∙ ap (λ (x : Bool). x && d) h)
 
--- ---- number
+-- ---- from_digits
 
 module _ (tens ones : ℕ) (d : areDigits tens ones ≡ true) where
   pub digits : (48 ≤ tens) × (tens ≤ 57) × (48 ≤ ones) × (ones ≤ 57)
@@ -47,7 +47,7 @@ module _ (tens ones : ℕ) (d : areDigits tens ones ≡ true) where
   pub ones-digit : 48 ≤ ones
   ones-digit = digits .2
 
--- ---- decode: s and t are the tests of the digits, u and v the numbers
+-- ---- decode: s and t are the tests of the digits, u and v what they write
 
 pub digits-hold : (tens ones : ℕ) (t : Bool) → t ≡ areDigits tens ones → not t ≡ false → areDigits tens ones ≡ true
 digits-hold tens ones t e h = sym e ∙ not-false t h
@@ -96,7 +96,7 @@ module _ (l : List ℕ) where
                 letter-left = digits-left ∙ rw (sym es ∙ not-false s hs, sym et ∙ not-false t ht) refl
 
                 -- c is the letter
-                pub decode-letter : (u v : ℕ) → u ≡ numberOf (at 2) (at 3) → v ≡ numberOf (at 5) (at 6) → (c : ℕ) → at 0 ≡ c
+                pub decode-letter : (u v : ℕ) → u ≡ fromDigits (at 2) (at 3) → v ≡ fromDigits (at 5) (at 6) → (c : ℕ) → at 0 ≡ c
                     → (r : Record) → r ≡ byLetter c u v → r ≡ decoded (take 8 l)
                 decode-letter u v eu ev c e r er = er ∙ sym (letter-left ∙ rw (e, eu, ev) refl)
 

@@ -13,7 +13,7 @@ use lib.Seq.{drop-cons, drop-length}
 use Rattle.record.specs.declared.Record.{Record}
 use Rattle.record.specs.declared.Record.the-variants.{Insert, Delete, Malformed}
 use Rattle.record.specs.Record.{insertLetter, deleteLetter, encoded, IsRecord, OfForm, Says, recordNumber, restFits, said}
-use Rattle.record.specs.Record.{areDigits, numberOf, byLetter, decoded}
+use Rattle.record.specs.Record.{areDigits, fromDigits, byLetter, decoded}
 use Rattle.record.proofs.CodecLaws.{digits}
 
 -- ---- two digits
@@ -28,18 +28,18 @@ digits-of x h =
       le-leb (48 + x % 10) 57 (omega arith),
     ) refl
 
-number-of : (x : ℕ) → numberOf (48 + x / 10) (48 + x % 10) ≡ x
-number-of x = omega arith
+from-digits-of : (x : ℕ) → fromDigits (48 + x / 10) (48 + x % 10) ≡ x
+from-digits-of x = omega arith
 
-number-digits : (a b : ℕ) → areDigits a b ≡ true → (numberOf a b < 100) × (48 + numberOf a b / 10 ≡ a) × (48 + numberOf a b % 10 ≡ b)
-number-digits a b d = let x = digits a b d in (omega (arith, x), omega (arith, x), omega (arith, x))
+from-digits-back : (a b : ℕ) → areDigits a b ≡ true → (fromDigits a b < 100) × (48 + fromDigits a b / 10 ≡ a) × (48 + fromDigits a b % 10 ≡ b)
+from-digits-back a b d = let x = digits a b d in (omega (arith, x), omega (arith, x), omega (arith, x))
 
 -- ---- what is written is read
 
 -- with any letter, and with the two that a record may have
 pub decoded-encoded : (c u v : ℕ) → u < 100 → v < 100 → decoded (encoded c u v) ≡ byLetter c u v
 unfolding decoded
-decoded-encoded c u v hu hv = rw (digits-of u hu, digits-of v hv, number-of u, number-of v) refl
+decoded-encoded c u v hu hv = rw (digits-of u hu, digits-of v hv, from-digits-of u, from-digits-of v) refl
 
 pub read-back : (u v : ℕ) → u < 100 → v < 100
     → (decoded (encoded insertLetter u v) ≡ Insert u v) × (decoded (encoded deleteLetter u v) ≡ Delete u v)
@@ -73,10 +73,10 @@ module _ (b : List ℕ) where
   at i = getD b i 0
 
   abbrev from : ℕ
-  from = numberOf (at 2) (at 3)
+  from = fromDigits (at 2) (at 3)
 
   abbrev to : ℕ
-  to = numberOf (at 5) (at 6)
+  to = fromDigits (at 5) (at 6)
 
   -- bytes that pass every test are a record
   fits : (eqb (length b) 8 && restFits at) ≡ true → IsRecord b (at 0) from to
@@ -86,8 +86,8 @@ module _ (b : List ℕ) where
       let p₄ = and-eq-true-iff (eqb (at 4) 32) _ .0 (p₁ .1) in
       let p₇ = and-eq-true-iff (eqb (at 7) 10) _ .0 (p₄ .1) in
       let d = and-eq-true-iff (areDigits (at 2) (at 3)) _ .0 (p₇ .1) in
-      let x = number-digits (at 2) (at 3) (d .0) in
-      let y = number-digits (at 5) (at 6) (d .1) in
+      let x = from-digits-back (at 2) (at 3) (d .0) in
+      let y = from-digits-back (at 5) (at 6) (d .1) in
       let bytes = eight b (eqb-true (length b) 8 (p .0)) in
       let e₁ = eqb-true (at 1) 32 (p₁ .0) in
       let e₄ = eqb-true (at 4) 32 (p₄ .0) in

@@ -13,6 +13,6 @@ use Rattle.record.specs.Record.{recordBytes, decoded}
 abbrev pub recordAt : List ℕ → ℕ → Record
 recordAt plan k = decoded (take recordBytes (drop (recordBytes * k) plan))
 
--- what a reader that has got to the record k gives: that record and the number of the next, if a byte is left
+-- what a reader that has got to the record k gives: that record and which is the next, if a byte is left
 unfoldable pub readingAt : List ℕ → ℕ → Reading
 readingAt plan k = cond (leb (length plan) (recordBytes * k)) End (Read (recordAt plan k) (suc k))

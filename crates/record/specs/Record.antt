@@ -54,9 +54,9 @@ recordNumber Malformed = 14
 unfoldable pub areDigits : ℕ → ℕ → Bool
 areDigits tens ones = leb 48 tens && (leb tens 57 && (leb 48 ones && leb ones 57))
 
--- the number that two digits write
-abbrev pub numberOf : ℕ → ℕ → ℕ
-numberOf tens ones = 10 * (tens - 48) + (ones - 48)
+-- what two digits write
+abbrev pub fromDigits : ℕ → ℕ → ℕ
+fromDigits tens ones = 10 * (tens - 48) + (ones - 48)
 
 -- what the letter and the two numbers say
 abbrev pub byLetter : ℕ → ℕ → ℕ → Record
@@ -67,7 +67,7 @@ abbrev pub restFits : (ℕ → ℕ) → Bool
 restFits at = eqb (at 1) 32 && (eqb (at 4) 32 && (eqb (at 7) 10 && (areDigits (at 2) (at 3) && areDigits (at 5) (at 6))))
 
 abbrev pub said : (ℕ → ℕ) → Record
-said at = byLetter (at 0) (numberOf (at 2) (at 3)) (numberOf (at 5) (at 6))
+said at = byLetter (at 0) (fromDigits (at 2) (at 3)) (fromDigits (at 5) (at 6))
 
 -- what b says
 unfoldable pub decoded : List ℕ → Record

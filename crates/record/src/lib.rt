@@ -4,7 +4,7 @@ ghost use mathlib.Core.Path.{_≡_};
 ghost use mathlib.Core.Bool.{true};
 ghost use Prim.Native.Nat.{_<_};
 ghost use lib.ListN.{take};
-ghost use Rattle.record.specs.Record.{recordBytes, encoded, areDigits, numberOf, decoded};
+ghost use Rattle.record.specs.Record.{recordBytes, encoded, areDigits, fromDigits, decoded};
 
 pub mod reader;
 
@@ -47,10 +47,10 @@ fn are_digits(tens: u8, ones: u8) -> bool
     b'0' <= tens && tens <= b'9' && b'0' <= ones && ones <= b'9'
 }
 
-// The number that two digits write.
-fn number(tens: u8, ones: u8) -> usize
+// What two digits write.
+fn from_digits(tens: u8, ones: u8) -> usize
     requires { ⌜ areDigits tens ones ≡ true ⌝ }
-    ensures { λ r. ⌜ r ≡ numberOf tens ones ⌝ }
+    ensures { λ r. ⌜ r ≡ fromDigits tens ones ⌝ }
 {
     10 * (tens - b'0') as usize + (ones - b'0') as usize
 }
@@ -68,8 +68,8 @@ pub fn decode(bytes: &[u8]) -> Record
     if !are_digits(bytes[2], bytes[3]) || !are_digits(bytes[5], bytes[6]) {
         return Record::Malformed;
     }
-    let from = number(bytes[2], bytes[3]);
-    let to = number(bytes[5], bytes[6]);
+    let from = from_digits(bytes[2], bytes[3]);
+    let to = from_digits(bytes[5], bytes[6]);
     let letter = bytes[0];
     match letter {
         b'L' => Record::Insert(from, to),

@@ -11,7 +11,7 @@ pub struct PlanReader<'a> {
 
 // What a reader gives.
 pub enum Reading {
-    // What the record says, and the number of the record after it.
+    // What the record says, and which record is the next, from 0 up.
     Read(Record, usize),
     // No byte is left.
     End,
@@ -38,7 +38,7 @@ pub fn reader_at<'a>(plan: &'a [u8], k: usize) -> PlanReader<'a>
     PlanReader { plan, record: k }
 }
 
-// The record that a reader has got to and the number of the next, or the end.
+// The record that a reader has got to and which is the next, or the end.
 pub fn next<'a>(reader: PlanReader<'a>) -> Reading
     ensures { λ r. ⌜ r ≡ readingAt (now (reader .entry .plan)) (reader .entry .«record») ⌝ }
 {

@@ -6,7 +6,7 @@ use mathlib.Core.List.{List, []}
 use Prim.Native.Nat.{ℕ, _%_, _^_, _<_}
 use native.Mathlib.Omega.{arith}
 use lib.ListN.{length, getD}
-use Rattle.graph.specs.Graph.{Exactly, IsPath, Cycle}
+use Rattle.graph.specs.Graph.{PathsExactly, Cycle}
 use Rattle.graph.specs.Count.{pathCount}
 use Rattle.answer.specs.Table.{Reflects, First}
 use Rattle.sheet_theory.specs.Conditions.{StrayRow, sized}
@@ -21,7 +21,7 @@ use Rattle.sheet_theory.proofs.ShapeLaws.{shape-refused, shape-passed}
 use Rattle.answer.proofs.AnswerLaws.{decided-old}
 use Rattle.sheet_theory.proofs.SetBitsLaws.{setBits-cong}
 use Rattle.recount_theory.specs.Calls.{rowConditions, recountConditions, Recounted, Recount}
-use Rattle.count_rows.specs.Internal.{counted}
+use Rattle.vertex_counts.specs.Internal.{counted}
 use Rattle.order.specs.Internal.{OrderFound}
 use Rattle.order.proofs.OrderLaws.{ordered-acyclic}
 
@@ -37,7 +37,7 @@ recounted-of n s t shape acyclic e =
           (λ i hi. ap (λ (l : List ℕ). rowAt l i) e ∙ row-redone n (rowAt s) c s (shape .long) i hi)
           (λ i j hi hj. refl)
           (λ k q. ap (λ (l : List ℕ). getD l k 0) e ∙ rest-redone n (rowAt s) c s k q));
-      counts = λ i j hi hj. subst (Exactly (IsPath n (edgeAt s) i j)) (sym (count i j hi hj)) (paths-exactly n s (shape .high) acyclic i j hi);
+      counts = λ i j hi hj. subst (PathsExactly n (edgeAt s) i j) (sym (count i j hi hj)) (paths-exactly n s (shape .high) acyclic i j hi);
     }
 
 -- refused by m: nothing is written

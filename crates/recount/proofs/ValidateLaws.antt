@@ -10,7 +10,7 @@ use Rattle.answer.specs.Table.{First, Reflects}
 use Rattle.sheet_theory.specs.Conditions.{StrayRow, sized}
 use Rattle.sheet_theory.specs.Lent.{Lent, lent}
 use Rattle.sheet_theory.specs.Valid.{Valid, notValid, validConditions}
-use Rattle.sheet_theory.specs.Internal.{RowHolds}
+use Rattle.sheet_theory.specs.Internal.{CountsHold}
 use Rattle.answer.specs.declared.Answer.{Answer}
 use Rattle.answer.specs.Answers.{answer}
 use Rattle.answer.proofs.TableLaws.{reflects-none, reflects-false, reflects-iff, first-only}
@@ -30,7 +30,7 @@ module _ (n : ℕ) (s : List ℕ) (shape : Shape n s) where
   valid-cycle found l o e = reflects-none (λ v. v .acyclic (o .cycle e))
 
   pub valid-holds : (t : Bool) → Reflects t (StrayRow n s) → t ≡ false → (found : Bool) (l : List ℕ) → OrderFound n s found l → found ≡ true
-      → (b : Bool) → Reflects b ((i : ℕ) → i < n → RowHolds n s i) → Reflects b (Valid n (lent s))
+      → (b : Bool) → Reflects b ((i : ℕ) → i < n → CountsHold n s i) → Reflects b (Valid n (lent s))
   valid-holds t r e found l o z b q =
       let iff = valid-iff-holds n (lent s) shape (reflects-false r .0 e) (ordered-acyclic n s l (o .ordered z)) in
       reflects-iff (iff .1) (iff .0) q

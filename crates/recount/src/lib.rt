@@ -8,7 +8,7 @@ ghost use Rattle.sheet_theory.specs.Lent.{lent};
 ghost use Rattle.sheet_theory.specs.Valid.{Valid, notValid, validConditions, alteringValid};
 ghost use Rattle.sheet_theory.specs.Internal.{RowsBelow};
 ghost use Rattle.recount_theory.specs.Calls.{Recount, Validate};
-ghost use Rattle.count_rows.specs.Internal.{counted};
+ghost use Rattle.vertex_counts.specs.Internal.{counted};
 ghost use Rattle.order.specs.Internal.{Ordered};
 use sheet::Answer;
 use sheet::Refusal;
@@ -20,7 +20,7 @@ fn fill_counts(n: usize, sheet: &mut [u64], order: &[usize; Sheet::VERTICES])
     ensures { λ r. ⌜ now (sheet .exit) ≡ counted n (now (sheet .entry)) ⌝ }
 {
     if n < count_blocks::COLUMNS {
-        count_rows::fill_rows(n, sheet, order);
+        vertex_counts::fill_all_counts(n, sheet, order);
         return;
     }
     count_blocks::fill_blocks(n, sheet, order);
@@ -39,7 +39,7 @@ pub fn recount_core(n: usize, sheet: &mut [u64]) -> Answer
         return Answer::refused(Refusal::CYCLE);
     }
     fill_counts(n, sheet, &order);
-    Answer::accepted(sheet::rows::count_set_bits(n, sheet))
+    Answer::accepted(sheet::words::count_set_bits(n, sheet))
 }
 
 // The counts worked out afresh from the rows (document 01: the survey). Refused by 1, 2, 4, 8, before a word is written. The
@@ -68,7 +68,7 @@ fn is_valid(n: usize, sheet: &[u64]) -> bool
         return false;
     }
     if n < count_blocks::COLUMNS {
-        return count_rows::rows_hold(n, sheet);
+        return vertex_counts::all_counts_hold(n, sheet);
     }
     count_blocks::blocks_hold(n, sheet, &found)
 }

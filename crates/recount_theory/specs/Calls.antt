@@ -3,7 +3,7 @@ use mathlib.Core.Path.{_≡_}
 use mathlib.Core.Logic.{_⊎_}
 use mathlib.Core.List.{[], _∷_}
 use Prim.Native.Nat.{ℕ, _<_}
-use Rattle.graph.specs.Graph.{Exactly, IsPath, Cycle}
+use Rattle.graph.specs.Graph.{PathsExactly, Cycle}
 use Rattle.answer.specs.declared.Answer.{Answer}
 use Rattle.answer.specs.Table.{_gives_, Conditions, First}
 use Rattle.answer.specs.Answers.{decided}
@@ -24,7 +24,7 @@ recountConditions n s = altering n s (rowConditions n s)
 -- t is s but for its counts, and each of these is the number of paths over the rows of s
 pub record Recounted (n : ℕ) (s t : Lent) : Type 0 where
   pub kept : t ≡ lent (redone n (rowAt (s .words)) (countAt n (t .words)) (s .words))
-  pub counts : (i j : ℕ) → i < n → j < n → Exactly (IsPath n (edgeAt (s .words)) i j) (countAt n (t .words) i j)
+  pub counts : (i j : ℕ) → i < n → j < n → PathsExactly n (edgeAt (s .words)) i j (countAt n (t .words) i j)
 
 -- recount answers r and turns s into t
 pub record Recount (n : ℕ) (s : Lent) (r : Answer) (t : Lent) : Type 0 where

@@ -1,41 +1,41 @@
-// Numbers by their decimal digits.
+// Decimals by their digits.
 
 // The base of the digits.
 const BASE: usize = 10;
 
 // What a word writes.
-pub(crate) enum Number {
-    // A number.
+pub(crate) enum Decimal {
+    // A decimal, with this value.
     Is(usize),
-    // Not a number of 64 bits: there is no digit, another byte, or the number is too great.
+    // Not a decimal of 64 bits: there is no digit, another byte, or it is too great.
     No,
 }
 
-// A number with one more digit after its digits.
-fn with_digit(number: Number, byte: u8) -> Number {
-    let Number::Is(value) = number else {
-        return Number::No;
+// A decimal with one more digit after its digits.
+fn with_digit(decimal: Decimal, byte: u8) -> Decimal {
+    let Decimal::Is(value) = decimal else {
+        return Decimal::No;
     };
     if byte < b'0' || b'9' < byte {
-        return Number::No;
+        return Decimal::No;
     }
     let digit = (byte - b'0') as usize;
     if (usize::MAX - digit) / BASE < value {
-        return Number::No;
+        return Decimal::No;
     }
-    Number::Is(BASE * value + digit)
+    Decimal::Is(BASE * value + digit)
 }
 
-// The number that a word writes.
-pub(crate) fn number_of(word: &[u8]) -> Number {
+// The decimal that a word writes.
+pub(crate) fn decimal_of(word: &[u8]) -> Decimal {
     if word.len() == 0 {
-        return Number::No;
+        return Decimal::No;
     }
-    let mut number = Number::Is(0);
+    let mut decimal = Decimal::Is(0);
     let mut k = 0;
     while k < word.len() {
-        number = with_digit(number, word[k]);
+        decimal = with_digit(decimal, word[k]);
         k += 1;
     }
-    number
+    decimal
 }

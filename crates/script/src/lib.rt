@@ -1,5 +1,5 @@
-// Lines of words and numbers from standard input, for the programs `cases` and `paths`: the input, its lines, the words of a line, the
-// numbers that words write, and what a line says; and what both programs print. A line feed ends a line, and one space stands between
+// Lines of words and decimals from standard input, for the programs `cases` and `paths`: the input, its lines, the words of a line, the
+// decimals that words write, and what a line says; and what both programs print. A line feed ends a line, and one space stands between
 // two words.
 ghost use Prim.Native.Nat.{_≤_};
 ghost use lib.ListN.{length};
@@ -7,12 +7,12 @@ ghost use lib.ListN.{length};
 mod digits;
 mod output;
 
-use digits::Number;
+use digits::Decimal;
 pub use output::print;
 pub use output::print_bytes;
+pub use output::print_decimal;
 pub use output::print_last;
 pub use output::print_line;
-pub use output::print_number;
 pub use output::print_words;
 
 // What ends a line.
@@ -97,32 +97,32 @@ pub fn words(line: &[u8]) -> usize {
     count(line, SPACE)
 }
 
-// Internal: the number that word k of a line writes; 0 if it writes none.
-pub fn number(line: &[u8], k: usize) -> usize {
-    match digits::number_of(part(line, SPACE, k)) {
-        Number::Is(value) => value,
-        Number::No => 0,
+// Internal: the decimal that word k of a line writes; 0 if it writes none.
+pub fn decimal(line: &[u8], k: usize) -> usize {
+    match digits::decimal_of(part(line, SPACE, k)) {
+        Decimal::Is(value) => value,
+        Decimal::No => 0,
     }
 }
 
-// Four numbers.
+// Four decimals.
 pub struct Four(pub usize, pub usize, pub usize, pub usize);
 
-// Internal: the first four numbers after the first word of a line; 0 where there is none.
-pub fn numbers(line: &[u8]) -> Four {
+// Internal: the first four decimals after the first word of a line; 0 where there is none.
+pub fn decimals(line: &[u8]) -> Four {
     Four(
-        number(line, 1),
-        number(line, 2),
-        number(line, 3),
-        number(line, 4),
+        decimal(line, 1),
+        decimal(line, 2),
+        decimal(line, 3),
+        decimal(line, 4),
     )
 }
 
-// Whether each word after the first writes a number.
-fn has_numbers(line: &[u8]) -> bool {
+// Whether each word after the first writes a decimal.
+fn has_decimals(line: &[u8]) -> bool {
     let mut k = words(line);
     while 0 < k {
-        if let Number::No = digits::number_of(part(line, SPACE, k)) {
+        if let Decimal::No = digits::decimal_of(part(line, SPACE, k)) {
             return false;
         }
         k -= 1;
@@ -130,7 +130,7 @@ fn has_numbers(line: &[u8]) -> bool {
     true
 }
 
-// Whether a line has a form: the form's first word, and then as many numbers as the form says, or any number of them if it says `*`, or
+// Whether a line has a form: the form's first word, and then as many decimals as the form says, or any number of them if it says `*`, or
 // any text if it says nothing.
 fn has_form(line: &[u8], form: &[u8]) -> bool {
     if !check::same(first(line, SPACE), first(form, SPACE)) {
@@ -139,7 +139,7 @@ fn has_form(line: &[u8], form: &[u8]) -> bool {
     if words(form) == 0 {
         return true;
     }
-    has_numbers(line) && (!has_numbers(form) || words(line) == number(form, 1))
+    has_decimals(line) && (!has_decimals(form) || words(line) == decimal(form, 1))
 }
 
 // Internal: which of some forms a line has, from 0 up; how many forms there are if it has none. A `/` ends each form.
@@ -152,7 +152,7 @@ pub fn form(line: &[u8], forms: &[u8]) -> usize {
     k
 }
 
-// Internal: puts the numbers after the first word of a line at the start of some words: whether they fit.
+// Internal: puts the decimals after the first word of a line at the start of some words: whether they fit.
 pub fn put_words(line: &[u8], buffer: &mut [u64]) -> bool {
     let count = words(line);
     if buffer.len() < count {
@@ -160,13 +160,13 @@ pub fn put_words(line: &[u8], buffer: &mut [u64]) -> bool {
     }
     let mut k = 0;
     while k < count {
-        buffer[k] = number(line, k + 1) as u64;
+        buffer[k] = decimal(line, k + 1) as u64;
         k += 1;
     }
     true
 }
 
-// Puts the numbers after the first word of a line at the start of some bytes: whether the numbers fit, and each fits a byte.
+// Puts the decimals after the first word of a line at the start of some bytes: whether they fit, and each fits a byte.
 fn put_bytes(line: &[u8], buffer: &mut [u8]) -> bool {
     let count = words(line);
     if buffer.len() < count {
@@ -174,7 +174,7 @@ fn put_bytes(line: &[u8], buffer: &mut [u8]) -> bool {
     }
     let mut k = 0;
     while k < count {
-        let value = number(line, k + 1);
+        let value = decimal(line, k + 1);
         if GREATEST_BYTE < value {
             return false;
         }
@@ -184,7 +184,7 @@ fn put_bytes(line: &[u8], buffer: &mut [u8]) -> bool {
     true
 }
 
-// Internal: the numbers after the first word of a line, as the bytes of a buffer; no byte if they do not fit, or one does not fit a byte.
+// Internal: the decimals after the first word of a line, as the bytes of a buffer; no byte if they do not fit, or one does not fit a byte.
 pub fn bytes_of<'a>(line: &[u8], buffer: &'a mut [u8]) -> &'a [u8] {
     let filled = put_bytes(line, buffer);
     let all = &buffer[..];

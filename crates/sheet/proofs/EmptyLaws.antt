@@ -12,7 +12,7 @@ use Rattle.sheet_theory.specs.Layout.{size, countAt, emptySheet}
 use Rattle.sheet.specs.Fill.{puts}
 use Rattle.sheet.specs.Internal.{diagonalAt}
 use Rattle.sheet.proofs.FillLaws.{length-puts, puts-in, puts-out}
-use Rattle.sheet_theory.proofs.LayoutLaws.{counts-within, row-counts, row-within, place-only, redone-ext}
+use Rattle.sheet_theory.proofs.LayoutLaws.{counts-within, row-counts, from-within, place-only, redone-ext}
 
 -- words of which each is set to 0 are zeros
 pub zeros-filled : (m : ℕ) (s w : List ℕ) (k : ℕ) → length s ≡ m → w ≡ puts s (λ (j : ℕ). j) (λ (j : ℕ). 0) k → k ≡ m → w ≡ replicate m 0
@@ -35,10 +35,10 @@ module _ (n : ℕ) (w t : List ℕ) (ew : w ≡ replicate (size n) 0) (et : t �
         | yes e ↦
             rw (← e, delta-refl i)
             (ap (λ (l : List ℕ). getD l (diagonalAt n i) 0) et
-            ∙ puts-in w (diagonalAt n) (λ k. 1) n i hi (omega (arith, ap length ew, length-replicate {A = ℕ} (size n) 0, row-within n i hi)) (λ k r l q. omega (arith, place-only n i i k k hi r q .0)))
+            ∙ puts-in w (diagonalAt n) (λ k. 1) n i hi (omega (arith, ap length ew, length-replicate {A = ℕ} (size n) 0, from-within n i hi)) (λ k r l q. omega (arith, place-only n i i k k hi r q .0)))
         | no ne ↦
             rw (delta-diff i j ne)
-            (off (n + i * n + j) (λ k r q. let p = place-only n i j k k hj r q in ne (p .0 ∙ sym (p .1))) ∙ getD-replicate {A = ℕ} (size n) _ 0 0 (omega (arith, row-within n i hi)))
+            (off (n + i * n + j) (λ k r q. let p = place-only n i j k k hj r q in ne (p .0 ∙ sym (p .1))) ∙ getD-replicate {A = ℕ} (size n) _ 0 0 (omega (arith, from-within n i hi)))
       ]
 
   pub empty-filled : t ≡ emptySheet n

@@ -1,4 +1,4 @@
 pub mod FillLaws
 pub mod EmptyLaws
 pub mod StrayLaws
-pub mod RowLaws
+pub mod WordsLaws

@@ -12,7 +12,7 @@ use Rattle.sheet.specs.Fill.{puts, over}
 -- ---- places
 
 -- r is where the counts from i begin, with all of them within a sheet
-pub record RowBase (n i r : ℕ) : Type 0 where
+pub record CountsFrom (n i r : ℕ) : Type 0 where
   pub is : r ≡ countsFrom n i
   pub within : r + n ≤ size n
   pub small : r + n ≤ countsEnd mostVertices
@@ -27,20 +27,20 @@ pub record Place (n i j r : ℕ) : Type 0 where
 abbrev pub diagonalAt : ℕ → ℕ → ℕ
 diagonalAt n i = countPlace n i i
 
--- ---- rows of counts
+-- ---- words and counts added up
 
 -- t with, at each place j below n, what op makes of word j of t and word j of s from base on: `plus` or `minus`
-abbrev pub rowBy : (ℕ → ℕ → ℕ) → ℕ → List ℕ → ℕ → List ℕ → List ℕ
-rowBy op n s base t = puts t (λ j. j) (λ j. op (getD t j 0) (getD s (base + j) 0)) n
+abbrev pub wordsBy : (ℕ → ℕ → ℕ) → ℕ → List ℕ → ℕ → List ℕ → List ℕ
+wordsBy op n s base t = puts t (λ j. j) (λ j. op (getD t j 0) (getD s (base + j) 0)) n
 
 -- u has as many words as t, and each below w is that of t with the counts to its column, of the w from c on, from the vertices of the
 -- mask below k, added or taken off: op is `plus` or `minus`
-pub record RowsBy (op : ℕ → ℕ → ℕ) (n : ℕ) (s : List ℕ) (mask c w : ℕ) (t u : List ℕ) (k : ℕ) : Type 0 where
+pub record SumsBy (op : ℕ → ℕ → ℕ) (n : ℕ) (s : List ℕ) (mask c w : ℕ) (t u : List ℕ) (k : ℕ) : Type 0 where
   pub long : length u ≡ length t
   pub each : (j : ℕ) → j < w → getD t j 0 < 2 ^ 64 → getD u j 0 ≡ op (getD t j 0) (sum k (λ b. bit mask b * countAt n s b (c + j)))
 
 -- t has, at each j below n, the sum of the counts to j from the vertices of the mask, modulo 2 ^ 64
-pub record RowsSummed (n : ℕ) (s : List ℕ) (mask : ℕ) (t : List ℕ) : Type 0 where
+pub record CountsSummed (n : ℕ) (s : List ℕ) (mask : ℕ) (t : List ℕ) : Type 0 where
   pub long : length t ≡ mostVertices
   pub sums : (j : ℕ) → j < n → getD t j 0 ≡ sum n (λ b. bit mask b * countAt n s b j) % 2 ^ 64
 

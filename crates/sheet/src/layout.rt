@@ -2,7 +2,7 @@
 ghost use mathlib.Core.Path.{_≡_};
 ghost use Prim.Native.Nat.{_≤_, _<_};
 ghost use Rattle.sheet_theory.specs.Layout.{mostVertices, countsEnd, size, Shape, countAt, emptySheet};
-ghost use Rattle.sheet.specs.Internal.{Place, RowBase};
+ghost use Rattle.sheet.specs.Internal.{Place, CountsFrom};
 use crate::fill;
 
 // A sheet of the greatest size. Other sheets are lent as n + n × n words.
@@ -45,9 +45,9 @@ pub fn word_count(n: usize) -> usize
 }
 
 // Internal: where the counts from vertex i begin.
-pub fn row_base(n: usize, i: usize) -> usize
+pub fn counts_from(n: usize, i: usize) -> usize
     requires { ⌜ (n ≤ mostVertices) × (i < n) ⌝ }
-    ensures { λ r. ⌜ RowBase n i r ⌝ }
+    ensures { λ r. ⌜ CountsFrom n i r ⌝ }
 {
     n + i * n
 }
@@ -57,7 +57,7 @@ pub(crate) fn count_place(n: usize, i: usize, j: usize) -> usize
     requires { ⌜ (n ≤ mostVertices) × (i < n) × (j < n) ⌝ }
     ensures { λ r. ⌜ Place n i j r ⌝ }
 {
-    row_base(n, i) + j
+    counts_from(n, i) + j
 }
 
 // Internal: the count from vertex i to vertex j.

@@ -7,7 +7,7 @@ ghost use Rattle.sheet_theory.specs.Calls.{emptyAnswer, emptyAfter, pathCountAn
 pub mod checks;
 mod fill;
 pub mod layout;
-pub mod rows;
+pub mod words;
 
 pub use answer::Answer;
 pub use answer::Refusal;

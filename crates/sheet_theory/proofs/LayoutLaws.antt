@@ -58,10 +58,10 @@ greatest = refl
 pub row-counts : (n i : ℕ) → i < n → n + i * n + n ≤ countsEnd n
 row-counts n i h = omega (arith, suc-mul i n, mul-le-mul-right n h)
 
-pub row-within : (n i : ℕ) → i < n → n + i * n + n ≤ size n
-row-within n i h = omega (arith, row-counts n i h, counts-within n)
+pub from-within : (n i : ℕ) → i < n → n + i * n + n ≤ size n
+from-within n i h = omega (arith, row-counts n i h, counts-within n)
 
--- a place tells its row and its column
+-- a place tells from which vertex to which its count is
 pub place-only : (n i j k m : ℕ) → j < n → m < n → n + i * n + j ≡ n + k * n + m → (i ≡ k) × (j ≡ m)
 place-only n i j k m hj hm e =
     let q : i * n + j ≡ k * n + m = omega arith in
@@ -123,7 +123,7 @@ module _ (n : ℕ) (r : ℕ → ℕ) (c : ℕ → ℕ → ℕ) (s : List ℕ) wh
 
     pub count-redone : (i j : ℕ) → i < n → j < n → countAt n (redone n r c s) i j ≡ c i j
     unfolding redone
-    count-redone i j hi hj = getD-build (length s) (redoneWord n r c s) (n + i * n + j) (omega (arith, row-within n i hi)) ∙ word-count i j hi hj
+    count-redone i j hi hj = getD-build (length s) (redoneWord n r c s) (n + i * n + j) (omega (arith, from-within n i hi)) ∙ word-count i j hi hj
 
   pub rest-redone : (k : ℕ) → countsEnd n ≤ k → getD (redone n r c s) k 0 ≡ getD s k 0
   unfolding redone

@@ -13,7 +13,7 @@ use Rattle.sums.proofs.SumLaws.{sum-cong, sum-all-zero, delta-refl, delta-diff}
 use Rattle.word.specs.Bit.{bit, bitCount}
 use Rattle.word.proofs.BitLaws.{bit-zero}
 use Rattle.word.proofs.CountLaws.{bitCount-below}
-use Rattle.graph.specs.Graph.{Exactly, IsPath}
+use Rattle.graph.specs.Graph.{PathsExactly}
 use Rattle.graph.proofs.Bound.{bound}
 use Rattle.graph.proofs.Edges.{edges-le}
 use Rattle.graph.proofs.Walks.{edgeless-acyclic}
@@ -23,10 +23,10 @@ use Rattle.sheet_theory.specs.Lent.{Lent, lent, Lends, multAt, emptyLent
 use Rattle.sheet_theory.specs.Conditions.{vertexConditions}
 use Rattle.sheet_theory.specs.Valid.{Valid}
 use Rattle.sheet_theory.specs.Calls.{emptyAnswer, emptyAfter, pathCountAnswer}
-use Rattle.sheet_theory.specs.Internal.{successorsSum, RowHolds}
+use Rattle.sheet_theory.specs.Internal.{successorsSum, CountsHold}
 use Rattle.sheet_theory.proofs.ShapeLaws.{accepted-shape, shape-passed, vertex-good}
 use Rattle.sheet_theory.proofs.StrayLaws.{rows-iff}
-use Rattle.sheet_theory.proofs.LayoutLaws.{row-within, length-redone, row-redone, count-redone}
+use Rattle.sheet_theory.proofs.LayoutLaws.{from-within, length-redone, row-redone, count-redone}
 use Rattle.sheet_theory.proofs.ValidLaws.{edge-le, valid-iff-holds, valid-only}
 use Rattle.sheet_theory.proofs.Refusals.{empty-table, path-count-table}
 
@@ -52,7 +52,7 @@ module _ (n : ℕ) where
   delta-small : (i j : ℕ) → delta i j < 2 ^ 64
   delta-small i j = elim (ℕ-discrete i j) [ yes e ↦ rw (e, delta-refl j) (omega (arith, pow-pos 64)) | no d ↦ rw (delta-diff i j d) (pow-pos 64) ]
 
-  empty-holds : (i : ℕ) → i < n → RowHolds n (emptySheet n) i
+  empty-holds : (i : ℕ) → i < n → CountsHold n (emptySheet n) i
   unfolding successorsSum
   empty-holds i hi j hj =
       let e : delta i j + sum n (λ b. edgeAt (emptySheet n) i b * countAt n (emptySheet n) b j) ≡ delta i j
@@ -83,11 +83,11 @@ path-count-stored n s i j z = ap (λ (k : ℕ). answered k (countAt n (s .words)
 
 -- on a valid sheet a call that names two vertices is accepted, and the value is exactly the number of paths from the one to the other
 pub path-count-exact : (n : ℕ) (s : Lent) (i j : ℕ) → Valid n s → i < n → j < n
-    → (pathCountAnswer n s i j .number ≡ 0) × Exactly (IsPath n (edgeAt (s .words)) i j) (pathCountAnswer n s i j .value)
+    → (pathCountAnswer n s i j .number ≡ 0) × PathsExactly n (edgeAt (s .words)) i j (pathCountAnswer n s i j .value)
 path-count-exact n s i j v hi hj =
     let z : pathCountAnswer n s i j .number ≡ 0
     = path-count-table n s i j 0 .1 (shape-passed n s (v .shape) (vertexConditions n i j []) 0 (vertex-good n i j hi hj)) in
-    (z, subst (Exactly (IsPath n (edgeAt (s .words)) i j)) (sym (ap (λ (k : ℕ). decided k (countAt n (s .words) i j) 0) z)) (v .counts i j hi hj))
+    (z, subst (PathsExactly n (edgeAt (s .words)) i j) (sym (ap (λ (k : ℕ). decided k (countAt n (s .words) i j) 0) z)) (v .counts i j hi hj))
 
 -- and that is at most 2 ^ (n - 2) between two different vertices, so that with 64 vertices it fits a word
 pub valid-count-le : (n : ℕ) (s : Lent) → Valid n s → (i j : ℕ) → i < n → j < n → (i ≡ j → ⊥) → countAt n (s .words) i j ≤ 2 ^ (n - 2)
@@ -111,4 +111,4 @@ pub valid-changed : (n : ℕ) (s : Lent) → Valid n s → (i j x : ℕ) → i <
 valid-changed n s v i j x hi hj d v′ =
     let w = s .words in
     let e = valid-only n (lent (set w (n + i * n + j) x)) s v′ v (λ k hk. getD-set-other w (n + i * n + j) k x 0 (λ q. omega arith)) in
-    d (sym (getD-set-same w (n + i * n + j) x 0 (omega (arith, row-within n i hi, v .shape .long))) ∙ ap (λ (l : Lent). countAt n (l .words) i j) e)
+    d (sym (getD-set-same w (n + i * n + j) x 0 (omega (arith, from-within n i hi, v .shape .long))) ∙ ap (λ (l : Lent). countAt n (l .words) i j) e)

@@ -12,7 +12,7 @@ use Rattle.sums.specs.Sum.{delta}
 use Rattle.sums.proofs.SumLaws.{sum-cong}
 use Rattle.word.specs.Bit.{bit}
 use Rattle.word.proofs.BitLaws.{bit-lt}
-use Rattle.graph.specs.Graph.{Exactly, IsPath, Acyclic}
+use Rattle.graph.specs.Graph.{PathsExactly, Acyclic}
 use Rattle.graph.specs.Count.{pathCount}
 use Rattle.graph.proofs.Lists.{exactly-only}
 use Rattle.graph.proofs.Recurrence.{pathCount-recurrence, pathCount-cong, recurrence-mod-only}
@@ -23,7 +23,7 @@ use Rattle.sheet_theory.specs.Layout.{rowAt, countAt, edgeAt}
 use Rattle.sheet_theory.specs.Lent.{Lent, lent, Lends}
 use Rattle.sheet_theory.specs.Conditions.{StrayRow}
 use Rattle.sheet_theory.specs.Valid.{Valid, notValid, validConditions}
-use Rattle.sheet_theory.specs.Internal.{successorsSum, RowHolds}
+use Rattle.sheet_theory.specs.Internal.{successorsSum, CountsHold}
 use Rattle.answer.proofs.TableLaws.{first-rest}
 use Rattle.answer.proofs.ByNumber.{first-not}
 use Rattle.sheet_theory.proofs.ShapeLaws.{accepted-shape, shape-passed, shape-rest}
@@ -34,14 +34,14 @@ edge-le s i j = omega (arith, bit-lt (rowAt s i) j)
 
 -- the paths over the rows of a sheet without a cycle are as many as `pathCount` says, and that fits a word
 module _ (n : ℕ) (s : List ℕ) (high : n ≤ 64) (acyclic : Acyclic n (edgeAt s)) where
-  pub paths-exactly : (i j : ℕ) → i < n → Exactly (IsPath n (edgeAt s) i j) (pathCount n (edgeAt s) i j)
+  pub paths-exactly : (i j : ℕ) → i < n → PathsExactly n (edgeAt s) i j (pathCount n (edgeAt s) i j)
   paths-exactly i j hi = pathCount-exact n (edgeAt s) acyclic (λ a b ha hb. edge-le s a b) i j hi
 
   pub paths-fit : (i j : ℕ) → i < n → j < n → pathCount n (edgeAt s) i j % 2 ^ 64 ≡ pathCount n (edgeAt s) i j
   paths-fit i j hi hj = mod-eq-of-lt (paths-below n (edgeAt s) acyclic high i j _ hi hj (paths-exactly i j hi))
 
   -- counts that satisfy the recurrence are the numbers of paths
-  holds-count : ((i : ℕ) → i < n → RowHolds n s i) → (i j : ℕ) → i < n → j < n → countAt n s i j ≡ pathCount n (edgeAt s) i j
+  holds-count : ((i : ℕ) → i < n → CountsHold n s i) → (i j : ℕ) → i < n → j < n → countAt n s i j ≡ pathCount n (edgeAt s) i j
   unfolding successorsSum
   holds-count h i j hi hj =
       sym (mod-eq-of-lt (rw (h i hi j hj) (mod-lt _ (pow-pos 64))))
@@ -49,7 +49,7 @@ module _ (n : ℕ) (s : List ℕ) (high : n ≤ 64) (acyclic : Acyclic n (edgeAt
       ∙ paths-fit i j hi hj
 
   -- and the numbers of paths satisfy it
-  count-holds : ((i j : ℕ) → i < n → j < n → countAt n s i j ≡ pathCount n (edgeAt s) i j) → (i : ℕ) → i < n → RowHolds n s i
+  count-holds : ((i j : ℕ) → i < n → j < n → countAt n s i j ≡ pathCount n (edgeAt s) i j) → (i : ℕ) → i < n → CountsHold n s i
   unfolding successorsSum
   count-holds h i hi j hj =
       h i j hi hj
@@ -62,7 +62,7 @@ valid-count n s v i j hi hj = exactly-only (v .counts i j hi hj) (paths-exactly 
 
 -- VALID: a sheet of the right shape, without a stray bit and without a cycle, is valid exactly if its counts satisfy the recurrence
 pub valid-iff-holds : (n : ℕ) (s : Lent) → Lends n s → ¬ (StrayRow n (s .words)) → Acyclic n (edgeAt (s .words))
-    → Valid n s ↔ ((i : ℕ) → i < n → RowHolds n (s .words) i)
+    → Valid n s ↔ ((i : ℕ) → i < n → CountsHold n (s .words) i)
 valid-iff-holds n s shape rows acyclic = (
   λ v. count-holds n (s .words) (shape .high) acyclic (valid-count n s v),
   λ h. record {
@@ -70,7 +70,7 @@ valid-iff-holds n s shape rows acyclic = (
     rows = rows;
     acyclic = acyclic;
     counts = λ i j hi hj.
-        subst (Exactly (IsPath n (edgeAt (s .words)) i j)) (sym (holds-count n (s .words) (shape .high) acyclic h i j hi hj))
+        subst (PathsExactly n (edgeAt (s .words)) i j) (sym (holds-count n (s .words) (shape .high) acyclic h i j hi hj))
         (paths-exactly n (s .words) (shape .high) acyclic i j hi);
   },
 )

@@ -11,8 +11,8 @@ unfoldable pub successorsSum : ℕ → List ℕ → ℕ → ℕ → ℕ
 successorsSum n s i j = (delta i j + sum n (λ b. edgeAt s i b * countAt n s b j)) % 2 ^ 64
 
 -- the counts from i satisfy the recurrence
-abbrev pub RowHolds : ℕ → List ℕ → ℕ → Type 0
-RowHolds n s i = (j : ℕ) → j < n → countAt n s i j ≡ successorsSum n s i j
+abbrev pub CountsHold : ℕ → List ℕ → ℕ → Type 0
+CountsHold n s i = (j : ℕ) → j < n → countAt n s i j ≡ successorsSum n s i j
 
 -- no row has a bit at n or above, by the numbers
 abbrev pub RowsBelow : ℕ → List ℕ → Type 0

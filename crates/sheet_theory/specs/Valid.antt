@@ -1,7 +1,7 @@
 -- A valid sheet (document 01: a true sheet), and what a call that wants one looks for first. Definitions only. Assumes nothing.
 use mathlib.Core.List.{_∷_}
 use Prim.Native.Nat.{ℕ, _<_}
-use Rattle.graph.specs.Graph.{Exactly, IsPath, Acyclic}
+use Rattle.graph.specs.Graph.{PathsExactly, Acyclic}
 use Rattle.sheet_theory.specs.Layout.{countAt, edgeAt}
 use Rattle.sheet_theory.specs.Lent.{Lent, Lends}
 use Rattle.answer.specs.Table.{_gives_, Conditions}
@@ -12,7 +12,7 @@ pub record Valid (n : ℕ) (s : Lent) : Type 0 where
   pub shape : Lends n s
   pub rows : ¬ (StrayRow n (s .words))
   pub acyclic : Acyclic n (edgeAt (s .words))
-  pub counts : (i j : ℕ) → i < n → j < n → Exactly (IsPath n (edgeAt (s .words)) i j) (countAt n (s .words) i j)
+  pub counts : (i j : ℕ) → i < n → j < n → PathsExactly n (edgeAt (s .words)) i j (countAt n (s .words) i j)
 
 -- 9: the sheet is not valid; and then the conditions l
 abbrev pub notValid : ℕ → Lent → Conditions → Conditions

@@ -5,7 +5,7 @@ use Prim.Native.Nat.{ℕ, _-_}
 use native.Mathlib.Decide.{ℕ-discrete}
 use native.Mathlib.Omega.{arith}
 use lib.Pow.{pow-pos}
-use Rattle.graph.specs.Graph.{Exactly, IsPath}
+use Rattle.graph.specs.Graph.{PathsExactly}
 use Rattle.graph.proofs.Lists.{exactly-only}
 use Rattle.graph.proofs.Counting.{exactly-self}
 use Rattle.graph.proofs.Bound.{bound, paths-below}
@@ -58,7 +58,7 @@ every-n n = record {
   fits = λ high w acyclic i j k hi hj x. paths-below n w acyclic high i j k hi hj x;
   bound = λ low w acyclic i j k hi hj x.
       elim (ℕ-discrete i j) [
-        | yes e ↦ omega (arith, exactly-only x (subst (λ y. Exactly (IsPath n w i y) 1) e (exactly-self n w i hi)), pow-pos (n - 2))
+        | yes e ↦ omega (arith, exactly-only x (subst (λ y. PathsExactly n w i y 1) e (exactly-self n w i hi)), pow-pos (n - 2))
         | no d ↦ bound n w acyclic i j k hi hj d x
       ];
 }

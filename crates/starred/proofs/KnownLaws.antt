@@ -12,7 +12,7 @@ use lib.Dec.{ltb, leb, eqb}
 use lib.ListN.{length}
 use Rattle.sums.specs.Sum.{sum}
 use Rattle.sums.proofs.SumLaws.{sum-cong}
-use Rattle.graph.specs.Graph.{_isIn_, Distinct, Exactly, IsPath, Cycle, Acyclic}
+use Rattle.graph.specs.Graph.{_isIn_, Distinct, IsPath, PathsExactly, Cycle, Acyclic}
 use Rattle.graph.proofs.Lists.{exactly-only}
 use Rattle.graph.proofs.Walks.{rising-acyclic, path-cong, cycle-cong}
 use Rattle.graph.proofs.Counting.{walkList, walkList-distinct, path-listed-iff}
@@ -84,7 +84,7 @@ module _ (n : ℕ) (l : List (ℕ × ℕ)) (s : Lent) (o : SheetOf n l s) where
           λ m. path-cong n (edgesOf l) (edgeAt (s .words)) (λ a b ha hb. sym (o .edges a b ha hb)) i j x (r .1 (subst (λ t. x isIn t) (sym e) m)),
         )
 
-    pub known-paths : Exactly (IsPath n (edgeAt (s .words)) i j) (length p)
+    pub known-paths : PathsExactly n (edgeAt (s .words)) i j (length p)
     known-paths = record {
       list = p;
       once = subst Distinct e (walkList-distinct n (edgesOf l) n i j);
@@ -94,7 +94,7 @@ module _ (n : ℕ) (l : List (ℕ × ℕ)) (s : Lent) (o : SheetOf n l s) where
     }
 
   -- so their number is what `path_count` answers
-  pub known-count : (i j : ℕ) → i < n → j < n → (k : ℕ) → Exactly (IsPath n (edgeAt (s .words)) i j) k → pathCountAnswer n s i j ≡ answer 0 0 k
+  pub known-count : (i j : ℕ) → i < n → j < n → (k : ℕ) → PathsExactly n (edgeAt (s .words)) i j k → pathCountAnswer n s i j ≡ answer 0 0 k
   known-count i j hi hj k x =
       let r = path-count-exact n s i j (o .valid) hi hj in answer-ext _ _ (r .0) refl (exactly-only (r .1) x)
 

@@ -11,7 +11,7 @@ use lib.Dec.{eqb}
 use lib.ListN.{length}
 use Rattle.sums.specs.Sum.{sum}
 use Rattle.sums.specs.Gather.{gather}
-use Rattle.graph.specs.Graph.{_isIn_, Exactly, IsPath}
+use Rattle.graph.specs.Graph.{_isIn_, IsPath, PathsExactly, PathsWithExactly}
 use Rattle.graph.specs.Uses.{Uses, oneEdge}
 use Rattle.graph.proofs.Lists.{when, each, exactly-only}
 use Rattle.graph.proofs.Counting.{walkList, exactly-self}
@@ -68,7 +68,7 @@ module _ (d : Lent) (o : SheetOf 5 diamond d) where
   lists : (p : List ℕ) → IsPath 5 (edgeAt (d .words)) 0 3 p ↔ (p isIn (upper ∷ lower ∷ []))
   lists = known-lists 5 diamond d o 0 3 (omega arith) (upper ∷ lower ∷ []) paths-0-3
 
-  two-paths : Exactly (IsPath 5 (edgeAt (d .words)) 0 3) 2
+  two-paths : PathsExactly 5 (edgeAt (d .words)) 0 3 2
   two-paths = known-paths 5 diamond d o 0 3 (omega arith) (upper ∷ lower ∷ []) paths-0-3
 
   path-upper : IsPath 5 (edgeAt (d .words)) 0 3 upper
@@ -81,7 +81,7 @@ module _ (d : Lent) (o : SheetOf 5 diamond d) where
   upper-first : Before upper lower
   upper-first = inr (refl, inl (omega arith))
 
-  before-upper : Exactly (λ p. IsPath 5 (edgeAt (d .words)) 0 3 p × Before p upper) 0
+  before-upper : PathsWithExactly 5 (edgeAt (d .words)) 0 3 (λ p. Before p upper) 0
   before-upper = record { list = []; once = tt; all = λ p q. go p (lists p .0 (q .0)) (q .1); only = λ p m. absurd m; many = refl }
     where
       go : (p : List ℕ) → p isIn (upper ∷ lower ∷ []) → Before p upper → ⊥
@@ -89,7 +89,7 @@ module _ (d : Lent) (o : SheetOf 5 diamond d) where
       go p (inr (inl e)) b = before-irrefl lower (before-trans lower upper lower (rw e at b) upper-first)
       go p (inr (inr m)) b = m
 
-  before-lower : Exactly (λ p. IsPath 5 (edgeAt (d .words)) 0 3 p × Before p lower) 1
+  before-lower : PathsWithExactly 5 (edgeAt (d .words)) 0 3 (λ p. Before p lower) 1
   before-lower = record {
     list = upper ∷ [];
     once = ((λ m. m), tt);
@@ -106,10 +106,10 @@ module _ (d : Lent) (o : SheetOf 5 diamond d) where
   -- ---- the questions
 
   module _ (buffer : List ℕ) (room : 5 ≤ length buffer) where
-    -- a path that has k paths before it is path number k, and its number is k
-    numbered : (p : List ℕ) (k : ℕ) → IsPath 5 (edgeAt (d .words)) 0 3 p → Exactly (λ q. IsPath 5 (edgeAt (d .words)) 0 3 q × Before q p) k
+    -- a path that has k paths before it is the path of rank k, and its rank is k
+    ranked : (p : List ℕ) (k : ℕ) → IsPath 5 (edgeAt (d .words)) 0 3 p → PathsWithExactly 5 (edgeAt (d .words)) 0 3 (λ q. Before q p) k
         → PathIs 5 d 0 3 k p buffer × (rankAnswer 5 d p ≡ answer 0 0 k)
-    numbered p k h x =
+    ranked p k h x =
         let r = rank-exact 5 d (o .valid) 0 3 p h in
         let e = exactly-only (r .1) x in
         (subst (λ v. PathIs 5 d 0 3 v p buffer) e (unrank-rank 5 d (o .valid) 0 3 p buffer h room), answer-ext _ _ (r .0) refl e)
@@ -161,7 +161,7 @@ module _ (d : Lent) (o : SheetOf 5 diamond d) where
   unfolding firstTrue some someEdge every same sum
   laid = known-inserts 5 diamond d o (at 4 (2 ^ 1) (2 ^ 3)) refl wider refl refl refl (λ i. cond (eqb i 3) 5 i) refl
 
-  three-paths : Exactly (IsPath 5 (edgeAt (editAfter insertion d .words)) 0 3) 3
+  three-paths : PathsExactly 5 (edgeAt (editAfter insertion d .words)) 0 3 3
   three-paths = known-paths 5 wider (editAfter insertion d) (laid .1) 0 3 (omega arith) _ wider-paths-0-3
 
   lifted : (editAnswer deletion (editAfter insertion d) ≡ answer 0 0 4) × SheetOf 5 diamond (editAfter deletion (editAfter insertion d))
@@ -186,8 +186,8 @@ starred e d buffer oe od room = record {
   alone = known-count 1 [] e oe 0 0 (omega arith) (omega arith) 1 (exactly-self 1 (edgeAt (e .words)) 0 (omega arith));
   loop = loop e oe;
   count = known-count 5 diamond d od 0 3 (omega arith) (omega arith) 2 (two-paths d od);
-  path0 = numbered d od buffer room upper 0 (path-upper d od) (before-upper d od) .0;
-  path1 = numbered d od buffer room lower 1 (path-lower d od) (before-lower d od);
+  path0 = ranked d od buffer room upper 0 (path-upper d od) (before-upper d od) .0;
+  path1 = ranked d od buffer room lower 1 (path-lower d od) (before-lower d od);
   path2 = beyond d od buffer room;
   cycle = cycle d od;
   cycleAt = cycle-at d od;

@@ -5,7 +5,7 @@ use mathlib.Core.Bool.{Bool}
 use mathlib.Core.List.{List}
 use Prim.Native.Nat.{ℕ, _-_, _^_, _≤_, _<_}
 use lib.ListN.{length}
-use Rattle.graph.specs.Graph.{Exactly, IsPath, Acyclic}
+use Rattle.graph.specs.Graph.{PathsExactly, Acyclic}
 use Rattle.answer.specs.declared.Answer.{Answer}
 use Rattle.answer.specs.Answers.{answer}
 use Rattle.sheet_theory.specs.Layout.{mostVertices}
@@ -39,6 +39,6 @@ pub record EveryN (n : ℕ) : Type 0 where
   -- n is not 1 to 64
   pub refused : BadVertices n → EveryCallRefused n
   -- a count fits: with at most 64 vertices there are fewer than 2 ^ 64 paths
-  pub fits : n ≤ mostVertices → (w : ℕ → ℕ → ℕ) → Acyclic n w → (i j k : ℕ) → i < n → j < n → Exactly (IsPath n w i j) k → k < 2 ^ 64
+  pub fits : n ≤ mostVertices → (w : ℕ → ℕ → ℕ) → Acyclic n w → (i j k : ℕ) → i < n → j < n → PathsExactly n w i j k → k < 2 ^ 64
   -- the bound: with 2 vertices or more there are at most 2 ^ (n - 2) paths between two, and from one to itself
-  pub bound : 2 ≤ n → (w : ℕ → ℕ → ℕ) → Acyclic n w → (i j k : ℕ) → i < n → j < n → Exactly (IsPath n w i j) k → k ≤ 2 ^ (n - 2)
+  pub bound : 2 ≤ n → (w : ℕ → ℕ → ℕ) → Acyclic n w → (i j k : ℕ) → i < n → j < n → PathsExactly n w i j k → k ≤ 2 ^ (n - 2)

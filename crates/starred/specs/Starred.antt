@@ -17,7 +17,7 @@ use Rattle.query_theory.specs.Rank.{rankAnswer}
 abbrev pub EditRefused : Edit → Lent → ℕ → Type 0
 EditRefused e s k = (editAnswer e s ≡ answer k 0 0) × (editAfter e s ≡ s)
 
--- the path from i to j of number k on the sheet s of n vertices is p: it is written to the first bytes of the buffer, and the value says
+-- the path from i to j of rank k on the sheet s of n vertices is p: it is written to the first bytes of the buffer, and the value says
 -- how many they are
 abbrev pub PathIs : ℕ → Lent → ℕ → ℕ → ℕ → List ℕ → List ℕ → Type 0
 PathIs n s i j k p buffer = (unrankAnswer n s i j k (length buffer) ≡ answer 0 0 (length p)) × (unrankAfter n s i j k buffer ≡ written p buffer)
@@ -39,7 +39,7 @@ pub record Starred (e d : Lent) (buffer : List ℕ) : Type 0 where
   pub count : pathCountAnswer 5 d 0 3 ≡ answer 0 0 2
   -- route 0 is 0, 1, 3
   pub path0 : PathIs 5 d 0 3 0 (0 ∷ 1 ∷ 3 ∷ []) buffer
-  -- route 1 is 0, 2, 3, and its number is 1
+  -- route 1 is 0, 2, 3, and its rank is 1
   pub path1 : PathIs 5 d 0 3 1 (0 ∷ 2 ∷ 3 ∷ []) buffer × (rankAnswer 5 d (0 ∷ 2 ∷ 3 ∷ []) ≡ answer 0 0 1)
   -- route 2: 11, and no byte is changed
   pub path2 : (unrankAnswer 5 d 0 3 2 (length buffer) ≡ answer 11 0 0) × (unrankAfter 5 d 0 3 2 buffer ≡ buffer)

@@ -1,4 +1,4 @@
--- The laws of lists put one after the other: one more, how long they are, which of them are the same, and lists in rows. Assumes nothing.
+-- The laws of lists put one after the other: one more, how long they are, which of them are the same, and lists of lists. Assumes nothing.
 use mathlib.Core.Path.{_≡_, refl, sym, ap, ap₂, _∙_}
 use mathlib.Core.List.{List, [], _++_, append-nil, append-assoc}
 use Prim.Native.Nat.{ℕ, zero, suc, _+_, _*_, _/_, _%_, _≤_, _<_}
@@ -23,7 +23,7 @@ module _ {A : Type 0} where
   gather-cong zero f g h = refl
   gather-cong (suc n) f g h = ap₂ _++_ (gather-cong n f g (λ i hi. h i (omega arith))) (h n (omega arith))
 
-  -- ---- the first of them, and rows
+  -- ---- the first of them, and lists of lists
 
   pub gather-first : (n : ℕ) (f : ℕ → List A) → gather (suc n) f ≡ f 0 ++ gather n (λ i. f (suc i))
   unfolding gather
@@ -38,18 +38,18 @@ module _ {A : Type 0} where
       ap (λ (x : ℕ). gather x f) e
       ∙ (ap (λ (l : List A). l ++ f (m + k)) (gather-add m k f) ∙ append-assoc (gather m f) (gather k (λ i. f (m + i))) (f (m + k)))
 
-  -- n rows of m are n × m, of which the one at k stands in the row k / m at the place k % m
-  pub gather-rows : (n m : ℕ) (f : ℕ → ℕ → List A) → 0 < m → gather n (λ i. gather m (f i)) ≡ gather (n * m) (λ k. f (k / m) (k % m))
+  -- n times m are n × m, of which the one at k stands among the m of k / m at the place k % m
+  pub gather-nested : (n m : ℕ) (f : ℕ → ℕ → List A) → 0 < m → gather n (λ i. gather m (f i)) ≡ gather (n * m) (λ k. f (k / m) (k % m))
   unfolding gather
-  gather-rows zero m f h = let e : 0 ≡ zero * m = omega arith in ap (λ (x : ℕ). gather x (λ k. f (k / m) (k % m))) e
-  gather-rows (suc n) m f h =
+  gather-nested zero m f h = let e : 0 ≡ zero * m = omega arith in ap (λ (x : ℕ). gather x (λ k. f (k / m) (k % m))) e
+  gather-nested (suc n) m f h =
       let e : n * m + m ≡ suc n * m = omega arith in
       let row : (i : ℕ) → i < m → f n i ≡ f ((n * m + i) / m) ((n * m + i) % m)
       = λ i hi.
       ap₂ f
       (omega (arith, mul-add-div-right h n i, div-eq-of-lt hi))
       (sym (mul-add-mod-self-right n m i ∙ mod-eq-of-lt hi)) in
-      ap₂ _++_ (gather-rows n m f h) (gather-cong m (f n) (λ i. f ((n * m + i) / m) ((n * m + i) % m)) row)
+      ap₂ _++_ (gather-nested n m f h) (gather-cong m (f n) (λ i. f ((n * m + i) / m) ((n * m + i) % m)) row)
       ∙ (sym (gather-add (n * m) m (λ k. f (k / m) (k % m))) ∙ ap (λ (x : ℕ). gather x (λ k. f (k / m) (k % m))) e)
 
   -- ---- how long

@@ -7,7 +7,7 @@ use borrow.Author.Count.{below-more}
 use borrow.Author.Tests.{not-false}
 use Rattle.sheet_theory.proofs.LayoutLaws.{rows-within}
 use Rattle.order.specs.Internal.{vertexAt}
-use Rattle.count_rows.proofs.RowLaws.{each-fails, each-holds}
+use Rattle.vertex_counts.proofs.CountsLaws.{each-fails, each-holds}
 use Rattle.count_blocks.proofs.BlockLaws.{Unled, unled-start, leading-below, VertexHolds, vertex-holds, compared-more, block-of}
 use Rattle.count_blocks.proofs.block_holds.Statement.{statement}
 use Rattle.count_blocks.proofs.block_holds.Tie as tie

@@ -5,7 +5,7 @@ use Prim.Native.Nat.{_-_, _≤_}
 use native.Mathlib.Omega.{arith}
 use Rattle.sheet_theory.proofs.LayoutLaws.{rows-within}
 use Rattle.order.specs.Internal.{vertexAt}
-use Rattle.count_rows.proofs.FilledLaws.{Filled, filled-start, filled-all, same-shape, same-below}
+use Rattle.vertex_counts.proofs.FilledLaws.{Filled, filled-start, filled-all, same-shape, same-below}
 use Rattle.count_blocks.proofs.BlockLaws.{Unled, unled-start, leading-below, filling-more}
 use Rattle.count_blocks.proofs.fill_block.Statement.{statement}
 use Rattle.count_blocks.proofs.fill_block.Tie as tie

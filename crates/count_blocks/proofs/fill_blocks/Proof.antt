@@ -2,8 +2,8 @@
 use Prim.Native.Nat.{_+_, _-_, _≤_}
 use native.Mathlib.Omega.{arith}
 use borrow.Author.Needs.{needs}
-use Rattle.count_rows.specs.Internal.{ColumnsFilled}
-use Rattle.count_rows.proofs.FilledLaws.{same-shape, same-below, same-ordered, columns-none, columns-more, columns-all}
+use Rattle.vertex_counts.specs.Internal.{ColumnsFilled}
+use Rattle.vertex_counts.proofs.FilledLaws.{same-shape, same-below, same-ordered, columns-none, columns-more, columns-all}
 use Rattle.count_blocks.proofs.fill_blocks.Statement.{statement}
 use Rattle.count_blocks.proofs.fill_blocks.Tie as tie
 

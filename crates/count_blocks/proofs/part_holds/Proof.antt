@@ -9,8 +9,8 @@ use Rattle.count_blocks.proofs.part_holds.Tie as tie
 returns : tie.Need-returns
 returns c =
     let a = c .before .before .before .before .before .before .before .before .before .before .before .before .args in
-    part-same (a .n) (a .sheet .now) (a .i) (a .mask) (a .c) _ (c .before .before .before .before .before .before .before .before .before .before .row-base .ensures) _ _ _ (c .before .before .before .before .before .before .before .before .add-row .ensures) (c .before .before .before .before .before .take-own .ensures)
-    (c .before .before .before .take-rows .ensures) _ (λ k. omega (arith, c .before .before .before .before .before .before .before .before .before .before .before .shared-slice-known .given k)) (c .same-row .ensures)
+    part-same (a .n) (a .sheet .now) (a .i) (a .mask) (a .c) _ (c .before .before .before .before .before .before .before .before .before .before .counts-from .ensures) _ _ _ (c .before .before .before .before .before .before .before .before .add-words .ensures) (c .before .before .before .before .before .take-own .ensures)
+    (c .before .before .before .take-counts .ensures) _ (λ k. omega (arith, c .before .before .before .before .before .before .before .before .before .before .before .shared-slice-known .given k)) (c .same-words .ensures)
 
 pub part-holds-spec : {M : Type 1} → statement M
 part-holds-spec =

@@ -16,8 +16,8 @@ abbrev μ-loop : tie.MeasureT-loop
 loop-holds : tie.Need-loop-holds Inv-loop μ-loop
 loop-holds c = (omega arith, editing-start _ _ _ _ _ _)
 
-edit-row-requires : tie.Need-edit-row-requires Inv-loop μ-loop
-edit-row-requires c κs =
+edit-counts-from-requires : tie.Need-edit-counts-from-requires Inv-loop μ-loop
+edit-counts-from-requires c κs =
     let l = c .before .before .before in
     let pre = l .before .before .before .before .before .pre in
     (editing-shape _ _ _ _ _ _ (pre .0) _ _ (l .loop .inv .1), omega arith, pre .1, pre .2)
@@ -28,7 +28,7 @@ loop-again c =
     let pre = l .before .before .before .before .before .pre in (
       omega arith,
       editing-both _ _ _ _ _ _ (pre .0) _ _ (l .loop .inv .1) (omega arith) _ _ _ (rw (length-replicate {A = ℕ} 64 0) (omega arith))
-          (l .before .from-factors .ensures) (c .before .before .edit-row .ensures),
+          (l .before .from-factors .ensures) (c .before .before .edit-counts-from .ensures),
     )
 
 same-length : tie.Need-same-length Inv-loop μ-loop
@@ -40,4 +40,4 @@ returns c = let l = c .before .loop in editing-all _ _ _ _ _ _ _ _ (l .inv .1) (
 pub edit-both-spec : {M : Type 1} → statement M
 edit-both-spec =
     tie.close
-    (tie.spec Inv-loop μ-loop (λ c κs. omega arith) loop-holds edit-row-requires (λ c. omega arith) (λ c. omega arith) loop-again same-length returns)
+    (tie.spec Inv-loop μ-loop (λ c κs. omega arith) loop-holds edit-counts-from-requires (λ c. omega arith) (λ c. omega arith) loop-again same-length returns)

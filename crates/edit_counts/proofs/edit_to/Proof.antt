@@ -17,7 +17,7 @@ abbrev μ-loop : tie.MeasureT-loop
 loop-holds : tie.Need-loop-holds Inv-loop μ-loop
 loop-holds c = at-start _ _ _ _ _
 
--- a whole row is left
+-- the counts from a vertex are left, all of them
 fits : (c : tie.In-loop Inv-loop μ-loop) → let a = c .before .before .before .before .args in c .before .loop .base + a .n ≤ length (a .sheet .now)
 fits c = let pre = c .before .before .before .before .pre in at-fits _ _ _ _ _ (pre .0) (pre .1) _ _ (c .before .loop .inv) (omega arith)
 

@@ -7,7 +7,7 @@ use lib.ListN.{getD}
 use Rattle.sheet_theory.specs.Layout.{countAt}
 use Rattle.sheet.specs.Fill.{puts}
 use Rattle.sheet.proofs.FillLaws.{puts-none, puts-more, puts-done}
-use Rattle.sheet.proofs.RowLaws.{base-count}
+use Rattle.sheet.proofs.WordsLaws.{base-count}
 use Rattle.edit_counts.specs.Internal.{fromFactor}
 use Rattle.edit_counts.proofs.from_factors.Statement.{statement}
 use Rattle.edit_counts.proofs.from_factors.Tie as tie
@@ -25,7 +25,7 @@ loop-again : tie.Need-loop-again Inv-loop μ-loop
 loop-again c =
     let l = c .before .before .before .before in
     let a = l .before .before .before .args in
-    let row = base-count (a .n) (a .sheet .now) _ _ (l .before .row-base .ensures) in
+    let row = base-count (a .n) (a .sheet .now) _ _ (l .before .counts-from .ensures) in
     (omega arith, puts-more _ _ _ _ _ _ _ (l .loop .inv .1) refl (c .from-factor .ensures ∙ ap (fromFactor (a .inserts) _) (row _)))
 
 returns : tie.Need-returns Inv-loop μ-loop

@@ -11,8 +11,8 @@ returns c = search rank-stops
 returns-2 : tie.Need-returns-2
 returns-2 c = search rank-accepted
 
-path-number-requires : tie.Need-path-number-requires
-path-number-requires c κs = rank-ready _ _ (c .before .before .before .before .args .path .now) _ (c .before .rank-number .ensures) (c .if1 .left)
+path-rank-requires : tie.Need-path-rank-requires
+path-rank-requires c κs = rank-ready _ _ (c .before .before .before .before .args .path .now) _ (c .before .rank-number .ensures) (c .if1 .left)
 
 pub rank-spec : {M : Type 1} → statement M
-rank-spec = tie.close (tie.spec (λ c κs. search needs) (λ c κs. search needs) returns path-number-requires (λ c κs. search needs) returns-2)
+rank-spec = tie.close (tie.spec (λ c κs. search needs) (λ c κs. search needs) returns path-rank-requires (λ c κs. search needs) returns-2)

@@ -26,13 +26,13 @@ returns-5 c = search decode-letter
 returns-6 : tie.Need-returns-6
 returns-6 c = search decode-other
 
-number-requires : tie.Need-number-requires
-number-requires c κs =
+from-digits-requires : tie.Need-from-digits-requires
+from-digits-requires c κs =
     let from = c .before .before .before .before .before .before in
     digits-hold _ _ _ (from .before .are-digits .ensures) (from .if5 .left)
 
-number-requires-2 : tie.Need-number-requires-2
-number-requires-2 c κs =
+from-digits-requires-2 : tie.Need-from-digits-requires-2
+from-digits-requires-2 c κs =
     let to = c .before .before .before .before .before in
     digits-hold _ _ _ (to .before .are-digits2 .ensures) (to .if6 .left)
 
@@ -41,4 +41,4 @@ decode-spec =
     tie.close
     (tie.spec returns (λ c. search needs) (λ c. search needs) (λ c. search needs) returns-2 (λ c. search needs) (λ c. search needs)
     (λ c κs. search needs) (λ c. search needs) (λ c. search needs) (λ c κs. search needs) returns-3 (λ c. search needs) (λ c. search needs)
-    number-requires (λ c. search needs) (λ c. search needs) number-requires-2 (λ c. search needs) returns-4 returns-5 returns-6)
+    from-digits-requires (λ c. search needs) (λ c. search needs) from-digits-requires-2 (λ c. search needs) returns-4 returns-5 returns-6)

@@ -16,8 +16,8 @@ find-order-requires c κs = search rows-below
 returns-2 : tie.Need-returns-2
 returns-2 c = search (valid-cycle, not-true)
 
-rows-hold-requires : tie.Need-rows-hold-requires
-rows-hold-requires c κs = search rows-below
+all-counts-hold-requires : tie.Need-all-counts-hold-requires
+all-counts-hold-requires c κs = search rows-below
 
 returns-3 : tie.Need-returns-3
 returns-3 c = search (valid-holds, not-false)
@@ -31,4 +31,4 @@ returns-4 c = search (valid-holds, not-false)
 pub is-valid-spec : {M : Type 1} → statement M
 is-valid-spec =
     tie.close
-    (tie.spec (λ c κs. search needs) returns find-order-requires returns-2 rows-hold-requires returns-3 blocks-hold-requires returns-4)
+    (tie.spec (λ c κs. search needs) returns find-order-requires returns-2 all-counts-hold-requires returns-3 blocks-hold-requires returns-4)

@@ -7,13 +7,13 @@ use Rattle.edit.proofs.checks.closes_cycle.Statement.{statement}
 use Rattle.edit.proofs.checks.closes_cycle.Tie as tie
 
 returns : tie.Need-returns
-returns c = cycle-into _ (c .before .before .before .args .sheet .now) _ _ _ _ (c .before .row-meets .ensures) (c .if1 .taken)
+returns c = cycle-into _ (c .before .before .before .args .sheet .now) _ _ _ _ (c .before .meets .ensures) (c .if1 .taken)
 
 returns-2 : tie.Need-returns-2
 returns-2 c =
     let i = c .before .before in
     let s = i .before .before .before .args .sheet .now in
-    cycle-out _ s _ _ _ _ (i .before .row-meets .ensures) _ _ (omega arith) (i .if1 .left) (c .before .set-bit .ensures) (c .some-meets .ensures)
+    cycle-out _ s _ _ _ _ (i .before .meets .ensures) _ _ (omega arith) (i .if1 .left) (c .before .set-bit .ensures) (c .some-meets .ensures)
 
 some-meets-requires : tie.Need-some-meets-requires
 some-meets-requires c κs =

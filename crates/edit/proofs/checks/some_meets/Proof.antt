@@ -20,8 +20,8 @@ loop-holds c = searching-start _ _ _ (c .before .pre .1)
 lowest-bit-requires : tie.Need-lowest-bit-requires Inv-loop μ-loop
 lowest-bit-requires c κs = omega (arith, eqb-false)
 
-row-meets-requires : tie.Need-row-meets-requires Inv-loop μ-loop
-row-meets-requires c κs =
+meets-requires : tie.Need-meets-requires Inv-loop μ-loop
+meets-requires c κs =
     let l = c .before .before in
     let p = l .before .before .pre in
     (p .0, searching-below _ _ _ _ _ (l .loop .inv) (c .lowest-bit .ensures), p .2)
@@ -29,7 +29,7 @@ row-meets-requires c κs =
 returns : tie.Need-returns Inv-loop μ-loop
 returns c =
     let l = c .before .before in
-    searching-found _ _ _ _ _ (l .before .before .loop .inv) (l .lowest-bit .ensures) (c .before .row-meets .ensures .holds (c .if1 .taken))
+    searching-found _ _ _ _ _ (l .before .before .loop .inv) (l .lowest-bit .ensures) (c .before .meets .ensures .holds (c .if1 .taken))
 
 loop-less : tie.Need-loop-less Inv-loop μ-loop
 loop-less c = lowest-cleared-lt _ _ _ (c .before .before .before .lowest-bit .ensures) (c .clear-lowest .ensures)
@@ -37,7 +37,7 @@ loop-less c = lowest-cleared-lt _ _ _ (c .before .before .before .lowest-bit .en
 loop-again : tie.Need-loop-again Inv-loop μ-loop
 loop-again c =
     let l = c .before .before .before in
-    let none = reflects-false (c .before .before .row-meets .ensures) .0 (c .before .if1 .left) in
+    let none = reflects-false (c .before .before .meets .ensures) .0 (c .before .if1 .left) in
     searching-more _ _ _ _ _ (l .before .before .loop .inv) (l .lowest-bit .ensures) _ none (c .clear-lowest .ensures)
 
 returns-2 : tie.Need-returns-2 Inv-loop μ-loop
@@ -46,4 +46,4 @@ returns-2 c = searching-done _ _ _ _ (c .before .loop .inv) (omega (arith, eqb-t
 pub some-meets-spec : {M : Type 1} → statement M
 some-meets-spec =
     tie.close
-    (tie.spec Inv-loop μ-loop loop-holds lowest-bit-requires row-meets-requires returns (λ c κs. omega arith) loop-less loop-again returns-2)
+    (tie.spec Inv-loop μ-loop loop-holds lowest-bit-requires meets-requires returns (λ c κs. omega arith) loop-less loop-again returns-2)

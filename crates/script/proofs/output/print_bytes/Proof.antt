@@ -12,12 +12,12 @@ Inv-loop bytes k₀ t4 t5 k = k ≤ length bytes
 abbrev μ-loop : tie.MeasureT-loop
 μ-loop bytes k₀ t4 t5 k = length bytes - k
 
-cast-print-number : tie.Need-cast-print-number Inv-loop μ-loop
-cast-print-number c = omega (arith, c .shared-slice-known2 .given (c .before .before .before .loop .k))
+cast-print-decimal : tie.Need-cast-print-decimal Inv-loop μ-loop
+cast-print-decimal c = omega (arith, c .shared-slice-known2 .given (c .before .before .before .loop .k))
 
 pub print-bytes-spec : {M : Type 1} → statement M
 print-bytes-spec =
     tie.close
     (tie.spec Inv-loop μ-loop (λ c. search needs) (λ c κs. search needs) (λ c. search needs) (λ c. search needs) (λ c. search needs)
-    cast-print-number (λ c κs. search needs) (λ c. search needs) (λ c. search needs) (λ c. search needs) (λ c. search needs)
+    cast-print-decimal (λ c κs. search needs) (λ c. search needs) (λ c. search needs) (λ c. search needs) (λ c. search needs)
     (λ c κs. search needs) (λ c. search needs))

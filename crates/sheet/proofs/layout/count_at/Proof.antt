@@ -1,6 +1,6 @@
 -- `sheet::layout::count_at` meets its contract: the count stands at its place. Assumes nothing.
 use borrow.Author.Needs.{needs}
-use Rattle.sheet.proofs.RowLaws.{place-count}
+use Rattle.sheet.proofs.WordsLaws.{place-count}
 use Rattle.sheet.proofs.layout.count_at.Statement.{statement}
 use Rattle.sheet.proofs.layout.count_at.Tie as tie
 
