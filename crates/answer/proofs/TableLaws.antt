@@ -75,13 +75,10 @@ first-only (c ∷ cs) j k (inr p) (inr q) = first-only cs j k (p .1) (q .1)
 pub first-iff : (cs : Conditions) (m k : ℕ) → First cs m → (m ≡ k) ↔ First cs k
 first-iff cs m k f = (λ e. rw e at f, first-only cs m k f)
 
--- a condition whose number is not given does not hold; so where the number is 0
-pub first-other : {P Q : Type 0} {m k : ℕ} → ¬ (m ≡ k) → ((P × (m ≡ k)) ⊎ ((¬ P) × Q)) → (¬ P) × Q
-first-other d (inl p) = absurd (d (p .1))
-first-other d (inr p) = p
-
+-- where the number is 0 the first condition does not hold, and none after it does
 pub first-past : {P Q : Type 0} {k : ℕ} → ((P × (0 ≡ suc k)) ⊎ ((¬ P) × Q)) → (¬ P) × Q
-first-past = first-other (λ e. omega (arith, e))
+first-past (inl p) = absurd (omega (arith, p .1))
+first-past (inr p) = p
 
 -- where a condition does not hold, those after it give the number
 pub first-rest : {P Q : Type 0} {j k : ℕ} → ¬ P → ((P × (k ≡ j)) ⊎ ((¬ P) × Q)) → Q
@@ -108,34 +105,3 @@ pub first-more : (cs ds : Conditions) (k : ℕ) → First cs k → (k ≡ 0 → 
 first-more [] ds k p d = absurd (d p)
 first-more (c ∷ cs) ds k (inl p) d = inl p
 first-more (c ∷ cs) ds k (inr p) d = inr (p .0, first-more cs ds k (p .1) d)
-
--- a test that is true, and one that is false
-pub first-here : (t : Bool × ℕ) (ts : Tests) → t .0 ≡ true → firstTrue (t ∷ ts) ≡ t .1
-unfolding firstTrue
-first-here t ts e = rw e
-
-pub first-next : (t : Bool × ℕ) (ts : Tests) → t .0 ≡ false → firstTrue (t ∷ ts) ≡ firstTrue ts
-unfolding firstTrue
-first-next t ts e = rw e
-
-pub first-none : firstTrue [] ≡ 0
-unfolding firstTrue
-first-none = refl
-
--- tests before others: one that is true stops, and where none is true the others are looked at
-pub first-stops : (ts us : Tests) → (firstTrue ts ≡ 0 → ⊥) → firstTrue (ts ++ us) ≡ firstTrue ts
-unfolding firstTrue
-first-stops [] us d = absurd (d refl)
-first-stops ((true, k) ∷ ts) us d = refl
-first-stops ((false, k) ∷ ts) us d = first-stops ts us d
-
--- no test gives 0
-abbrev pub Refusing : Tests → Type 0
-Refusing [] = Unit {0}
-Refusing (t ∷ ts) = (0 < t .1) × Refusing ts
-
-pub first-passes : (ts us : Tests) → Refusing ts → firstTrue ts ≡ 0 → firstTrue (ts ++ us) ≡ firstTrue us
-unfolding firstTrue
-first-passes [] us h e = refl
-first-passes ((true, k) ∷ ts) us h e = absurd (omega (arith, h .0))
-first-passes ((false, k) ∷ ts) us h e = first-passes ts us (h .1) e

@@ -10,11 +10,11 @@ use Rattle.answer.specs.declared.Answer.{Answer}
 use Rattle.answer.specs.Table.{First}
 use Rattle.answer.specs.Answers.{answer}
 use Rattle.sheet_theory.specs.Lent.{Lent}
-use Rattle.answer.proofs.TableLaws.{first-only, first-more}
+use Rattle.answer.proofs.TableLaws.{first-more}
 use Rattle.answer.proofs.ByNumber.{first-after}
-use Rattle.answer.proofs.AnswerLaws.{answered-refused, answered-accepted, refused-as, accepted-as}
+use Rattle.answer.proofs.AnswerLaws.{refused-as, accepted-as}
 use Rattle.query_theory.specs.Unrank.{walk, walkConditions, unrankConditions, unrankAnswer, unrankAfter}
-use Rattle.query_theory.specs.Rank.{rankConditions, rankNumber, pathRank, rankAnswer}
+use Rattle.query_theory.specs.Rank.{rankConditions, pathRank, rankAnswer}
 use Rattle.query_theory.proofs.Refusals.{unrank-first, rank-first}
 use Rattle.query.specs.Internal.{beforeWalk, WalkKept}
 use Rattle.query.proofs.AsideLaws.{aside-taken}
@@ -52,11 +52,8 @@ module _ (n : ℕ) (s : Lent) (i j k : ℕ) (p : List ℕ) (m : ℕ) (f : First 
 -- ---- rank
 
 module _ (n : ℕ) (s : Lent) (p : List ℕ) (k : ℕ) (f : First (rankConditions n s p) k) (r : Answer) where
-  given : k ≡ rankNumber n s p
-  given = first-only (rankConditions n s p) k _ f (rank-first n s p)
-
   pub rank-stops : (k ≡ 0 → ⊥) → r ≡ answer k 0 0 → r ≡ rankAnswer n s p
-  rank-stops d er = answered-refused k _ given _ r d er
+  rank-stops d er = refused-as (rankConditions n s p) k _ f (rank-first n s p) s s _ r d er .0
 
   pub rank-accepted : (x : ℕ) → k ≡ 0 → x ≡ pathRank n (s .words) p % 2 ^ 64 → r ≡ answer 0 0 x → r ≡ rankAnswer n s p
-  rank-accepted x z ex er = answered-accepted k _ given _ r z (er ∙ ap (answer 0 0) ex)
+  rank-accepted x z ex er = accepted-as (rankConditions n s p) k _ f (rank-first n s p) s s s _ r z (er ∙ ap (answer 0 0) ex) refl .0
