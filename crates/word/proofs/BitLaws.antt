@@ -10,6 +10,7 @@ use native.Mathlib.Decide.{decLt, ℕ-discrete}
 use native.Mathlib.Omega.{arith}
 use borrow.Author.Tests.{eqb-true, eqb-false}
 use lib.Arith.{lt-one}
+use lib.Count.{trailingZeros}
 use lib.Pow.{pow-pos, pow-mono, shr-shr, shr-lt, split, high, low, field, mod-mod-pow}
 use Rattle.sums.specs.Sum.{sum}
 use Rattle.word.specs.Bit.{bit, hasBit, withBit, withoutBit, ofBits}
@@ -57,22 +58,22 @@ bit-mod x j k h =
 bit-below : (a j r k : ℕ) → k < j → r < 2 ^ j → bit (a * 2 ^ j + r) k ≡ bit r k
 bit-below a j r k kj h = sym (bit-mod (a * 2 ^ j + r) j k kj) ∙ ap (λ y. bit y k) (low a j h)
 
-bit-above : (a j r i : ℕ) → r < 2 ^ j → bit (a * 2 ^ j + r) (j + i) ≡ bit a i
-bit-above a j r i h = ap (λ x. x % 2) (sym (shr-shr (a * 2 ^ j + r) j i) ∙ ap (λ x. x / 2 ^ i) (high a j h))
-
 bit-at : (a j r : ℕ) → r < 2 ^ j → bit (a * 2 ^ j + r) j ≡ a % 2
 bit-at a j r h = ap (λ x. x % 2) (high a j h)
 
--- two numbers that differ in the digit j alone have the same bit at every other place
-bit-other : (a b j r k : ℕ) → (k ≡ j → ⊥) → a / 2 ≡ b / 2 → r < 2 ^ j → bit (a * 2 ^ j + r) k ≡ bit (b * 2 ^ j + r) k
-bit-other a b j r k d e h =
+-- a number that differs from x in the digit j alone has the same bit at every other place
+bit-other : (x y a j k : ℕ) → y ≡ a * 2 ^ j + x % 2 ^ j → a / 2 ≡ x / 2 ^ j / 2 → (k ≡ j → ⊥) → bit y k ≡ bit x k
+bit-other x y a j k e h d =
     elim (decLt k j) [
-      | yes l ↦ bit-below a j r k l h ∙ sym (bit-below b j r k l h)
-      | no l ↦ let q : j + suc (k - suc j) ≡ k = omega (arith, d) in subst (λ m. bit (a * 2 ^ j + r) m ≡ bit (b * 2 ^ j + r) m) q (over (k - suc j))
+      | yes l ↦ ap (λ z. bit z k) e ∙ bit-below a j (x % 2 ^ j) k l (rest-lt x j) ∙ bit-mod x j k l
+      | no l ↦ let q : j + suc (k - suc j) ≡ k = omega (arith, d) in subst (λ m. bit y m ≡ bit x m) q (over (k - suc j))
     ]
   where
-    over : (i : ℕ) → bit (a * 2 ^ j + r) (j + suc i) ≡ bit (b * 2 ^ j + r) (j + suc i)
-    over i = bit-above a j r (suc i) h ∙ sym (bit-half a i) ∙ ap (λ y. bit y i) e ∙ bit-half b i ∙ sym (bit-above b j r (suc i) h)
+    above : (z i : ℕ) → bit z (j + suc i) ≡ bit (z / 2 ^ j / 2) i
+    above z i = ap (λ w. w % 2) (sym (shr-shr z j (suc i))) ∙ sym (bit-half (z / 2 ^ j) i)
+
+    over : (i : ℕ) → bit y (j + suc i) ≡ bit x (j + suc i)
+    over i = above y i ∙ ap (λ z. bit z i) (ap (λ z. z / 2) (ap (λ z. z / 2 ^ j) e ∙ high a j (rest-lt x j)) ∙ h) ∙ sym (above x i)
 
 -- ---- a bit set
 
@@ -85,10 +86,7 @@ bit-set-same x j =
     ap (λ y. bit y j) (set-split x j) ∙ bit-at (x / 2 ^ j + (1 - bit x j)) j (x % 2 ^ j) (rest-lt x j) ∙ omega arith
 
 pub bit-set-other : (x j k : ℕ) → (k ≡ j → ⊥) → bit (withBit x j) k ≡ bit x k
-bit-set-other x j k d =
-    ap (λ y. bit y k) (set-split x j)
-    ∙ bit-other (x / 2 ^ j + (1 - bit x j)) (x / 2 ^ j) j (x % 2 ^ j) k d (omega arith) (rest-lt x j)
-    ∙ ap (λ y. bit y k) (split x j)
+bit-set-other x j k d = bit-other x (withBit x j) (x / 2 ^ j + (1 - bit x j)) j k (set-split x j) (omega arith) d
 
 -- ---- a bit cleared
 
@@ -107,28 +105,22 @@ bit-clear-same x j =
     ap (λ y. bit y j) (clear-split x j) ∙ bit-at (x / 2 ^ j - bit x j) j (x % 2 ^ j) (rest-lt x j) ∙ omega arith
 
 pub bit-clear-other : (x j k : ℕ) → (k ≡ j → ⊥) → bit (withoutBit x j) k ≡ bit x k
-bit-clear-other x j k d =
-    ap (λ y. bit y k) (clear-split x j)
-    ∙ bit-other (x / 2 ^ j - bit x j) (x / 2 ^ j) j (x % 2 ^ j) k d (omega arith) (rest-lt x j)
-    ∙ ap (λ y. bit y k) (split x j)
+bit-clear-other x j k d = bit-other x (withoutBit x j) (x / 2 ^ j - bit x j) j k (clear-split x j) (omega arith) d
 
 pub clear-twice : (x j : ℕ) → withoutBit (withoutBit x j) j ≡ withoutBit x j
 unfolding withoutBit
 clear-twice x j = omega (arith, ap (λ y. y * 2 ^ j) (bit-clear-same x j))
 
-pub clear-le : (x j : ℕ) → withoutBit x j ≤ x
-unfolding withoutBit
-clear-le x j = sub-le x (bit x j * 2 ^ j)
-
 pub clear-below : (n x j : ℕ) → x < 2 ^ n → withoutBit x j < 2 ^ n
-clear-below n x j h = lt-of-le-of-lt (clear-le x j) h
+unfolding withoutBit
+clear-below n x j h = lt-of-le-of-lt (sub-le x (bit x j * 2 ^ j)) h
 
 pub clear-lt : (x j : ℕ) → bit x j ≡ 1 → withoutBit x j < x
 clear-lt x j e = omega (arith, clear-split x j, digit-split x j, ap (λ y. y * 2 ^ j) e, pow-pos j)
 
 -- ---- the bits and the number
 
-pub half-lt : (x k : ℕ) → x < 2 ^ suc k → x / 2 < 2 ^ k
+half-lt : (x k : ℕ) → x < 2 ^ suc k → x / 2 < 2 ^ k
 half-lt x k l = shr-lt k 1 (subst (λ y. x < 2 ^ y) (sym (add-one k)) l)
 
 -- two numbers of n digits with the same bits are one
@@ -146,13 +138,22 @@ bit-above-zero x n j h l = ap (λ y. y % 2) (div-eq-of-lt (lt-of-lt-of-le h (pow
 pub bit-one-lt : (n x j : ℕ) → x < 2 ^ n → bit x j ≡ 1 → j < n
 bit-one-lt n x j h e = lt-of-not-le (λ l. omega (arith, bit-above-zero x n j h l))
 
--- a number that is not 0 has a bit
-some-bit : (k x : ℕ) → x < 2 ^ k → 0 < x → (j : ℕ) × (bit x j ≡ 1)
-some-bit zero x l h = absurd (omega arith)
-some-bit (suc k) x l h =
+zeros-more : (x t : ℕ) → bit x 0 ≡ 0 → ((i : ℕ) → i < t → bit (x / 2) i ≡ 0) → (i : ℕ) → i < suc t → bit x i ≡ 0
+zeros-more x t e h zero l = e
+zeros-more x t e h (suc i) l = sym (bit-half x i) ∙ h i (omega arith)
+
+-- a number of k digits that is not 0 has its lowest bit above its trailing zeros
+pub trailing-lowest : (k x : ℕ) → 0 < x → x < 2 ^ k
+    → (trailingZeros k x < k) × (bit x (trailingZeros k x) ≡ 1) × ((i : ℕ) → i < trailingZeros k x → bit x i ≡ 0)
+unfolding trailingZeros
+trailing-lowest zero x p h = absurd (omega arith)
+trailing-lowest (suc k) x p h =
     elim (bit-cases x 0) [
-      | inr e ↦ (0, e)
-      | inl e ↦ let r = some-bit k (x / 2) (half-lt x k l) (omega arith) in (suc (r .0), sym (bit-half x (r .0)) ∙ r .1)
+      | inr e ↦ let o : x % 2 ≡ 1 = omega arith in rw o (omega arith, e, λ i l. absurd (omega arith))
+      | inl e ↦
+          let z : x % 2 ≡ 0 = omega arith in
+          let t = trailing-lowest k (x / 2) (omega arith) (half-lt x k h) in
+          rw z (omega (arith, t .0), sym (bit-half x (trailingZeros k (x / 2))) ∙ t .1, zeros-more x (trailingZeros k (x / 2)) e (t .2))
     ]
 
 lt-pow : (x : ℕ) → x < 2 ^ x
@@ -167,8 +168,7 @@ pub bit-beyond : (n x : ℕ) → 2 ^ n ≤ x → (j : ℕ) × (n ≤ j) × (bit 
 bit-beyond n x h =
     let q : ℕ = x / 2 ^ n in
     let p : 0 < q = elim (decLt 0 q) [ yes l ↦ l | no l ↦ absurd (omega (arith, shr-zero-lt n x (omega arith))) ] in
-    let r = some-bit q q (lt-pow q) p in
-    (n + r .0, omega arith, ap (λ y. y % 2) (sym (shr-shr x n (r .0))) ∙ r .1)
+    (n + trailingZeros q q, omega arith, ap (λ y. y % 2) (sym (shr-shr x n (trailingZeros q q))) ∙ trailing-lowest q q p (lt-pow q) .1)
 
 -- a number has n digits if and only if it has no bit at n or above
 pub below-iff : (n x : ℕ) → (x < 2 ^ n) ↔ ((j : ℕ) → n ≤ j → bit x j ≡ 0)

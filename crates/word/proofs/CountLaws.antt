@@ -10,24 +10,11 @@ use lib.Arith.{lt-one}
 use lib.Pow.{pow-pos, pow-mono, shr-lt, split, ones-lt}
 use lib.Count.{ones, ones-cat, ones-ones, trailingZeros, leadingZeros, leading-top}
 use Rattle.sums.specs.Sum.{sum, delta}
-use Rattle.sums.proofs.SumLaws.{delta-refl, delta-diff, sum-cong, sum-add, sum-all-zero, sum-pick, sum-far, term-le}
+use Rattle.sums.proofs.SumLaws.{delta-refl, delta-diff, sum-cong, sum-add, sum-all-zero, sum-pick, sum-far, term-le, sum-mono, sum-const}
 use Rattle.word.specs.Bit.{bit, withoutBit, bitCount, Lowest, Highest, LowestCleared}
-use Rattle.word.proofs.BitLaws.{bit-lt, bit-cases, bit-zero, bit-half, bit-mod, bit-clear-same, bit-clear-other, clear-lt, half-lt, bit-above-zero, bit-one-lt, bit-beyond}
+use Rattle.word.proofs.BitLaws.{bit-lt, bit-cases, bit-zero, bit-mod, bit-clear-same, bit-clear-other, clear-lt, bit-above-zero, bit-one-lt, bit-beyond, trailing-lowest}
 
--- ---- sums that differ in one term, and a sum over the set bits where there are none
-
--- two functions that differ at j alone
-sum-differ : (n j c : ℕ) (f g : ℕ → ℕ) → j < n → g j ≡ f j + c → ((b : ℕ) → (b ≡ j → ⊥) → g b ≡ f b) → sum n g ≡ sum n f + c
-sum-differ n j c f g jn e h =
-    sum-cong n g (λ b. f b + delta b j * c) (λ b l. at b) ∙ sum-add n f (λ b. delta b j * c) ∙ ap (λ y. sum n f + y) (sum-pick n j (λ _. c) jn)
-  where
-    at : (b : ℕ) → g b ≡ f b + delta b j * c
-    at b =
-        elim (ℕ-discrete b j) [
-          | yes q ↦ rw (q, delta-refl j, one-mul) e
-          | no d ↦ rw (delta-diff b j d, zero-mul, add-zero) (h b d)
-        ]
-
+-- a sum over the set bits where there are none
 pub sum-no-bits : (n : ℕ) (f : ℕ → ℕ) → sum n (λ b. bit 0 b * f b) ≡ 0
 sum-no-bits n f = sum-all-zero n _ (λ b l. rw (bit-zero b) (zero-mul (f b)))
 
@@ -36,7 +23,17 @@ sum-no-bits n f = sum-all-zero n _ (λ b l. rw (bit-zero b) (zero-mul (f b)))
 pub bitCount-clear : (x j : ℕ) → j < 64 → bitCount x ≡ bitCount (withoutBit x j) + bit x j
 unfolding bitCount
 bitCount-clear x j h =
-    sum-differ 64 j (bit x j) (λ b. bit (withoutBit x j) b) (λ b. bit x b) h (omega (arith, bit-clear-same x j)) (λ b d. sym (bit-clear-other x j b d))
+    sum-cong 64 _ (λ b. f b + delta b j * bit x b) (λ b l. at b) ∙ sum-add 64 f (λ b. delta b j * bit x b) ∙ ap (λ y. sum 64 f + y) (sum-pick 64 j (bit x) h)
+  where
+    f : ℕ → ℕ
+    f = bit (withoutBit x j)
+
+    at : (b : ℕ) → bit x b ≡ f b + delta b j * bit x b
+    at b =
+        elim (ℕ-discrete b j) [
+          | yes q ↦ rw (q, delta-refl j, one-mul) (omega (arith, bit-clear-same x j))
+          | no d ↦ rw (delta-diff b j d, zero-mul, add-zero) (sym (bit-clear-other x j b d))
+        ]
 
 pub bitCount-pos : (x j : ℕ) → bit x j ≡ 1 → j < 64 → 0 < bitCount x
 unfolding bitCount
@@ -47,14 +44,9 @@ pub bitCount-below : (n x : ℕ) → n ≤ 64 → x < 2 ^ n → bitCount x ≡ s
 unfolding bitCount
 bitCount-below n x h l = sum-far n 64 (λ j. bit x j) h (λ j q _. bit-above-zero x n j l q)
 
-bits-le : (n x : ℕ) → sum n (λ j. bit x j) ≤ n
-unfolding sum
-bits-le zero x = omega arith
-bits-le (suc n) x = omega (arith, bits-le n x, bit-lt x n)
-
 pub bitCount-le : (x : ℕ) → bitCount x ≤ 64
 unfolding bitCount
-bitCount-le x = bits-le 64 x
+bitCount-le x = omega (arith, sum-mono 64 (bit x) (λ j. 1) (λ j h. omega (arith, bit-lt x j)), sum-const 64 1)
 
 ones-bit : (x j : ℕ) → ones (bit x j) ≡ bit x j
 unfolding ones
@@ -80,24 +72,6 @@ pub bitCount-low : (n : ℕ) → n ≤ 64 → bitCount (2 ^ n - 1) ≡ n
 bitCount-low n h = sym (bitCount-ones (2 ^ n - 1) (lt-of-lt-of-le (ones-lt n) (pow-mono h))) ∙ ones-ones n
 
 -- ---- the lowest bit that is set
-
-zeros-more : (x t : ℕ) → bit x 0 ≡ 0 → ((i : ℕ) → i < t → bit (x / 2) i ≡ 0) → (i : ℕ) → i < suc t → bit x i ≡ 0
-zeros-more x t e h zero l = e
-zeros-more x t e h (suc i) l = sym (bit-half x i) ∙ h i (omega arith)
-
--- a number of k digits that is not 0 has its lowest bit above its trailing zeros
-trailing-lowest : (k x : ℕ) → 0 < x → x < 2 ^ k
-    → (trailingZeros k x < k) × (bit x (trailingZeros k x) ≡ 1) × ((i : ℕ) → i < trailingZeros k x → bit x i ≡ 0)
-unfolding trailingZeros
-trailing-lowest zero x p h = absurd (omega arith)
-trailing-lowest (suc k) x p h =
-    elim (bit-cases x 0) [
-      | inr e ↦ let o : x % 2 ≡ 1 = omega arith in rw o (omega arith, e, λ i l. absurd (omega arith))
-      | inl e ↦
-          let z : x % 2 ≡ 0 = omega arith in
-          let t = trailing-lowest k (x / 2) (omega arith) (half-lt x k h) in
-          rw z (omega (arith, t .0), sym (bit-half x (trailingZeros k (x / 2))) ∙ t .1, zeros-more x (trailingZeros k (x / 2)) e (t .2))
-    ]
 
 pub lowest-trailing : (x : ℕ) → 0 < x → x < 2 ^ 64 → Lowest x (trailingZeros 64 x)
 lowest-trailing x p h = let t = trailing-lowest 64 x p h in record { within = t .0; set = t .1; least = t .2 }

@@ -84,10 +84,8 @@ and-zero x y e j h = sym (rw h (one-mul (bit y j))) ∙ sym (bit-and x y j) ∙ 
 pub and-some : (x y n : ℕ) → x < 2 ^ n → (bitAnd x y ≡ 0 → ⊥) → (j : ℕ) × (j < n) × (bit x j ≡ 1) × (bit y j ≡ 1)
 and-some x y n h d =
     let r = bit-beyond 0 (bitAnd x y) (omega (arith, d)) in
-    let e : bit x (r .0) * bit y (r .0) ≡ 1 = sym (bit-and x y (r .0)) ∙ r .2 in
-    let p : bit x (r .0) ≡ 1 = ⊎-elim (λ z. absurd (omega (arith, ap (λ b. b * bit y (r .0)) z))) (λ o. o) (bit-cases x (r .0)) in
-    let q : bit y (r .0) ≡ 1 = omega (arith, ap (λ b. b * bit y (r .0)) p) in
-    (r .0, bit-one-lt n x (r .0) h p, p, q)
+    let b = and-both x y (r .0) (r .2) in
+    (r .0, bit-one-lt n x (r .0) h (b .0), b .0, b .1)
 
 pub or-zero : (x y : ℕ) → bitOr x y ≡ 0 → (x ≡ 0) × (y ≡ 0)
 or-zero x y e = (omega (arith, or-add-and x y, and-le-r x y), omega (arith, or-add-and x y, and-le-l x y))

@@ -22,15 +22,6 @@ low-half x = mask-lt x 32
 
 ruleset halves = (product-fits, high-half, low-half)
 
-mul-wrapping-add-u64 : tie.Need-mul-wrapping-add-u64
-mul-wrapping-add-u64 c = search halves
-
-mul-wrapping-add-u64-2 : tie.Need-mul-wrapping-add-u64-2
-mul-wrapping-add-u64-2 c = search halves
-
-mul-wrapping-add-u64-3 : tie.Need-mul-wrapping-add-u64-3
-mul-wrapping-add-u64-3 c = search halves
-
 returns : tie.Need-returns
 returns c =
     let given = c .before .before .args in
@@ -39,4 +30,4 @@ returns c =
 pub wrapping-mul-spec : {M : Type 1} → statement M
 wrapping-mul-spec =
     tie.close
-    (tie.spec mul-wrapping-add-u64 mul-wrapping-add-u64-2 (λ c κs. search needs) mul-wrapping-add-u64-3 (λ c κs. search needs) returns)
+    (tie.spec (λ c. search halves) (λ c. search halves) (λ c κs. search needs) (λ c. search halves) (λ c κs. search needs) returns)
