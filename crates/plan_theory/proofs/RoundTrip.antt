@@ -1,9 +1,9 @@
 -- THE ROUND TRIP: what is written of a valid sheet is read into an empty one as that very sheet, word for word. Assumes nothing.
-use mathlib.Core.Path.{_≡_, refl, sym, ap, ap₂, subst, _∙_}
+use mathlib.Core.Path.{_≡_, refl, ap, ap₂, subst, _∙_}
 use mathlib.Core.Logic.{_⊎_, inl, inr, _↔_}
 use mathlib.Core.Bool.{true}
 use mathlib.Core.List.{List, [], _∷_}
-use Prim.Native.Nat.{ℕ, suc, _≤_, _<_}
+use Prim.Native.Nat.{ℕ, _≤_, _<_}
 use native.Mathlib.Decide.{ℕ-discrete}
 use native.Mathlib.Omega.{arith}
 use lib.ListN.{length, take}
@@ -13,27 +13,25 @@ use Rattle.record.specs.declared.Record.{Record}
 use Rattle.record.specs.declared.Record.the-variants.{Insert, Delete, Malformed}
 use Rattle.answer.specs.declared.Answer.{Answer}
 use Rattle.answer.specs.Table.{_gives_, First}
-use Rattle.answer.specs.Answers.{answer, decided}
-use Rattle.sheet_theory.specs.Layout.{edgeAt, setBits, emptySheet}
-use Rattle.sheet_theory.specs.Lent.{Lent, lent, multAt, emptyLent}
+use Rattle.answer.specs.Answers.{answer}
+use Rattle.sheet_theory.specs.Layout.{edgeAt, setBits}
+use Rattle.sheet_theory.specs.Lent.{Lent, multAt, emptyLent}
 use Rattle.sheet_theory.specs.Valid.{Valid}
-use Rattle.answer.proofs.TableLaws.{first-only}
 use Rattle.sheet_theory.proofs.ValidLaws.{edge-le, accepted-valid, valid-passed}
 use Rattle.sheet_theory.proofs.Meaning.{empty-edge, empty-valid}
-use Rattle.edit_theory.specs.Edit.{Edit, insertEdge}
-use Rattle.edit_theory.specs.Outcome.{editNumber, editWords}
-use Rattle.edit_theory.specs.Book.{Model}
-use Rattle.edit_theory.specs.Model.{modelConditions}
-use Rattle.edit_theory.proofs.FreshLaws.{Modelled, modelled-edge, valid-modelled, fresh-only}
-use Rattle.edit_theory.proofs.StepLaws.{number-first, accepted-modelled}
-use Rattle.plan_theory.specs.Records.{numberOn, leftBy, Applied, applied}
-use Rattle.plan_theory.specs.PlanOf.{edgeRecords, planOf}
-use Rattle.plan_theory.specs.Calls.{BadPlan, readConditions, appliedPlan, appliedAnswer, ReadPlan, ShortBuffer, WritePlan}
-use Rattle.plan_theory.proofs.Meaning.{write-taken}
+use Rattle.edit_theory.specs.Book.{Model, opened}
+use Rattle.edit_theory.specs.Model.{Fresh}
+use Rattle.edit_theory.proofs.FreshLaws.{valid-modelled, fresh-only}
 use Rattle.edit_theory.proofs.MayLaws.{insert-first}
+use Rattle.plan_theory.specs.Records.{records}
+use Rattle.plan_theory.specs.Taken.{RecordNumber, Taken}
+use Rattle.plan_theory.specs.PlanOf.{edgeRecords, planOf}
+use Rattle.plan_theory.specs.Calls.{BadPlan, readConditions, ReadPlan, ShortBuffer, WritePlan}
+use Rattle.plan_theory.proofs.Meaning.{read-accepted, read-accepted-iff, write-taken}
 use Rattle.plan_theory.proofs.EffectLaws.{with, with-cases}
 use Rattle.plan_theory.proofs.OrderLaws.{edge-records-distinct}
-use Rattle.plan_theory.proofs.AppliedLaws.{applied-next}
+use Rattle.plan_theory.proofs.AppliedLaws.{taken-only}
+use Rattle.plan_theory.proofs.LengthLaws.{length-good}
 use Rattle.plan_theory.proofs.PlanOfLaws.{edge-records-iff, edge-records-of, insert-only, plan-records, plan-short}
 
 -- ---- one edge more
@@ -48,37 +46,26 @@ with-iff e u v i j =
 
 -- ---- insertions that are all accepted
 
--- every record is accepted, and they leave s
-abbrev whole : Lent → Applied
-whole s = record { number = 0; place = 0; left = s }
-
 -- the model of n vertices and the edges e
 abbrev model : ℕ → (ℕ → ℕ → ℕ) → Model
 model n e = record { vertices = n; edge = e }
 
--- q has come through l, to the sheet of the edges e together with those that l inserts
-record Gained (n : ℕ) (e : ℕ → ℕ → ℕ) (l : List Record) (q : Applied) : Type 0 where
-  pub left : Lent
-  pub through : q ≡ whole left
+-- the model of the edges e takes l, and has those that l inserts besides
+record Gained (n : ℕ) (e : ℕ → ℕ → ℕ) (l : List Record) : Type 0 where
   pub edge : ℕ → ℕ → ℕ
-  pub modelled : Modelled (model n edge) left
+  pub taken : Taken (model n e) l (model n edge)
   pub edges : (i j : ℕ) → (0 < edge i j) ↔ ((0 < e i j) ⊎ (Insert i j isIn l))
 
-gained-none : (n : ℕ) (e : ℕ → ℕ → ℕ) (s : Lent) → Modelled (model n e) s → Gained n e [] (whole s)
-gained-none n e s m = record {
-  left = s;
-  through = refl;
-  edge = e;
-  modelled = m;
-  edges = λ i j. (λ h. inl h, λ h. elim h [ inl a ↦ a | inr a ↦ absurd a ]);
-}
+gained-none : (n : ℕ) (e : ℕ → ℕ → ℕ) → Gained n e []
+unfolding Taken
+gained-none n e = record { edge = e; taken = refl; edges = λ i j. (λ h. inl h, λ h. elim h [ inl a ↦ a | inr a ↦ absurd a ]) }
 
-gained-more : (n : ℕ) (e : ℕ → ℕ → ℕ) (u v : ℕ) (l : List Record) (q : Applied) → Gained n (with true e u v) l q → Gained n e (Insert u v ∷ l) q
-gained-more n e u v l q g = record {
-  left = g .left;
-  through = g .through;
+gained-more : (n : ℕ) (e : ℕ → ℕ → ℕ) (u v : ℕ) (l : List Record) → RecordNumber (model n e) (Insert u v) 0 → Gained n (with true e u v) l
+    → Gained n e (Insert u v ∷ l)
+unfolding Taken
+gained-more n e u v l f g = record {
   edge = g .edge;
-  modelled = g .modelled;
+  taken = (f, g .taken);
   edges = λ i j.
       let p = g .edges i j in
       let c = with-iff e u v i j in (
@@ -114,49 +101,32 @@ module _ (n : ℕ) (w : ℕ → ℕ → ℕ) where
   with-new e u v (Delete i j) d h = h
   with-new e u v Malformed d h = h
 
-  module _ (acyclic : Acyclic n w) where
+  module _ (low : 1 ≤ n) (high : n ≤ 64) (acyclic : Acyclic n w) where
     no-loop : (u : ℕ) → u < n → ¬ (Edge n w u u)
     no-loop u hu h = acyclic (cycle-of n w u u hu hu h (reach-refl n w u))
 
     -- inserting one is accepted: a cycle would be one of w
-    new-passes : (e : ℕ → ℕ → ℕ) (u v : ℕ) → 1 ≤ n → n ≤ 64 → Within e → New e (Insert u v)
-        → First (modelConditions (model n e) (insertEdge n u v)) 0
-    new-passes e u v low high within (hu, hv, h, z) =
+    new-passes : (e : ℕ → ℕ → ℕ) (u v : ℕ) → Within e → New e (Insert u v) → RecordNumber (model n e) (Insert u v) 0
+    new-passes e u v within (hu, hv, h, z) =
         insert-first (model n e) u v (λ c. elim c [ inl l ↦ omega arith | inr l ↦ omega arith ]) hu hv
         (λ q. no-loop u hu (rw (← q) at h)) (λ q. omega (arith, z, q)) 0
         (inr (λ c. acyclic (cycle-widen n (with true e u v) w (with-within e u v h within) c), refl))
 
-    new-accepted : (e : ℕ → ℕ → ℕ) (s : Lent) (u v : ℕ) → Modelled (model n e) s → Within e → New e (Insert u v)
-        → (numberOn n s (Insert u v) ≡ 0) × Modelled (model n (with true e u v)) (leftBy n s (Insert u v))
-    unfolding numberOn
-    new-accepted e s u v m within h =
-        let x : Edit = insertEdge n u v in
-        let f = new-passes e u v (m .low) (m .high) within h in
-        let z : editNumber x s ≡ 0 = first-only (modelConditions (model n e) x) (editNumber x s) 0 (number-first (model n e) s m x) f in
-        (z, subst (Modelled (model n (with true e u v))) (sym (ap (λ (k : ℕ). decided k (lent (editWords x s)) s) z)) (accepted-modelled (model n e) s m x f .1))
-
     -- records that insert edges of w, each once and none of them there, are all accepted
-    inserts-applied : (l : List Record) (e : ℕ → ℕ → ℕ) (s : Lent) (p : ℕ) → Distinct l → ((x : Record) → x isIn l → New e x)
-        → Within e → Modelled (model n e) s → Gained n e l (applied n l s p)
-    unfolding applied
-    inserts-applied [] e s p d new within m = gained-none n e s m
-    inserts-applied (Insert u v ∷ l) e s p d new within m =
+    inserts-taken : (l : List Record) (e : ℕ → ℕ → ℕ) → Distinct l → ((x : Record) → x isIn l → New e x) → Within e → Gained n e l
+    inserts-taken [] e d new within = gained-none n e
+    inserts-taken (Insert u v ∷ l) e d new within =
         let h = new (Insert u v) (inl refl) in
-        let a = new-accepted e s u v m within h in
-        subst (Gained n e (Insert u v ∷ l)) (sym (applied-next n (Insert u v) l s p (a .0)))
-        (gained-more n e u v l _
-        (inserts-applied l (with true e u v) (leftBy n s (Insert u v)) (suc p) (d .1)
-        (λ x q. with-new e u v x (λ c. d .0 (rw c at q)) (new x (inr q))) (with-within e u v (h .2) within) (a .1)))
-    inserts-applied (Delete u v ∷ l) e s p d new within m = absurd (new (Delete u v) (inl refl))
-    inserts-applied (Malformed ∷ l) e s p d new within m = absurd (new Malformed (inl refl))
+        gained-more n e u v l (new-passes e u v within h)
+        (inserts-taken l (with true e u v) (d .1)
+        (λ x q. with-new e u v x (λ c. d .0 (rw c at q)) (new x (inr q))) (with-within e u v (h .2) within))
+    inserts-taken (Delete u v ∷ l) e d new within = absurd (new (Delete u v) (inl refl))
+    inserts-taken (Malformed ∷ l) e d new within = absurd (new Malformed (inl refl))
 
 -- ---- the plan of a valid sheet, read into the empty one
 
 module _ (n : ℕ) (s : Lent) (valid : Valid n s) where
-  empty-good : Valid n (emptyLent n)
-  empty-good = empty-valid n (valid .shape .low) (valid .shape .high)
-
-  -- its edges: none
+  -- the edges of the empty sheet: none
   abbrev none : ℕ → ℕ → ℕ
   none = multAt n (emptyLent n)
 
@@ -166,13 +136,15 @@ module _ (n : ℕ) (s : Lent) (valid : Valid n s) where
       let r = edge-records-of n s x m in
       rw (r .4) (r .1, r .3, omega (arith, r .5), empty-edge n (r .0) (r .2) (r .1) (r .3))
 
-  plan-gained : Gained n none (edgeRecords n s) (appliedPlan n (emptyLent n) (planOf n s))
+  plan-gained : Gained n none (edgeRecords n s)
   plan-gained =
-      subst (λ l. Gained n none (edgeRecords n s) (applied n l (emptyLent n) 1)) (sym (plan-records n s (valid .shape .high)))
-      (inserts-applied n (edgeAt (s .words)) (valid .acyclic) (edgeRecords n s) none (emptyLent n) 1 (edge-records-distinct n s) plan-new
-      (λ i j hi hj p. absurd (omega (arith, p, empty-edge n i j hi hj))) (valid-modelled empty-good))
+      inserts-taken n (edgeAt (s .words)) (valid .shape .low) (valid .shape .high) (valid .acyclic) (edgeRecords n s) none (edge-records-distinct n s) plan-new
+      (λ i j hi hj p. absurd (omega (arith, p, empty-edge n i j hi hj)))
 
-  -- so its edges are those of s, and it is s
+  plan-taken : Taken (opened n (emptyLent n)) (records (planOf n s)) (model n (plan-gained .edge))
+  plan-taken = rw (plan-records n s (valid .shape .high)) (plan-gained .taken)
+
+  -- so it comes to the edges of s
   gained-iff : (i j : ℕ) → i < n → j < n → (0 < plan-gained .edge i j) ↔ (edgeAt (s .words) i j ≡ 1)
   gained-iff i j hi hj =
       let p = plan-gained .edges i j in
@@ -181,33 +153,30 @@ module _ (n : ℕ) (s : Lent) (valid : Valid n s) where
         λ h. p .1 (inr (q .1 h)),
       )
 
-  gained-edge : (i j : ℕ) → i < n → j < n → plan-gained .edge i j ≡ edgeAt (s .words) i j
-  gained-edge i j hi hj =
+  gained-edge : (i j : ℕ) → i < n → j < n → plan-gained .edge i j ≤ 1 → plan-gained .edge i j ≡ edgeAt (s .words) i j
+  gained-edge i j hi hj one =
       let p = gained-iff i j hi hj in
-      let one = modelled-edge (plan-gained .modelled) i j hi hj in
       elim (ℕ-discrete (edgeAt (s .words) i j) 1) [
         | yes e ↦ omega (arith, p .1 e)
         | no d ↦ let c : 0 < plan-gained .edge i j → ⊥ = λ h. d (p .0 h) in omega (arith, edge-le (s .words) i j)
       ]
 
-  plan-applied : appliedPlan n (emptyLent n) (planOf n s) ≡ whole s
-  plan-applied =
-      plan-gained .through
-      ∙ ap whole (fresh-only n (plan-gained .edge) (edgeAt (s .words)) _ s gained-edge (plan-gained .modelled .fresh) (valid-modelled valid .fresh))
-
   plan-passed : First (readConditions n (emptyLent n) (planOf n s)) 0
   plan-passed =
       let q = plan-short n s valid in
-      valid-passed n (emptyLent n) empty-good (BadPlan (planOf n s) gives 13 ∷ []) 0
-      (inr (λ c. elim c [ inl d ↦ d (q .1) | inr l ↦ omega (arith, q .0) ], refl))
+      valid-passed n (emptyLent n) (empty-valid n (valid .shape .low) (valid .shape .high)) (BadPlan (planOf n s) gives 13 ∷ []) 0
+      (length-good (planOf n s) (q .1) (q .0))
 
   -- THE THEOREM: reading what was written of a valid sheet into the empty sheet of as many vertices gives that sheet, word for word
   pub round-trip : (r : Answer) (t : Lent) → ReadPlan n (emptyLent n) (planOf n s) r t → (r ≡ answer 0 0 (setBits n (s .words))) × (t ≡ s)
   round-trip r t h =
-      let z = first-only (readConditions n (emptyLent n) (planOf n s)) (h .k) 0 (h .first) plan-passed in
-      let e : r ≡ answer 0 0 (setBits n (s .words))
-      = h .answers ∙ ap₂ (λ (k : ℕ) (q : Applied). decided k (appliedAnswer n q) (answer k 0 0)) z plan-applied in
-      (e, h .leaves ∙ ap₂ (λ (x : Answer) (q : Applied). decided (x .number) (q .left) (emptyLent n)) e plan-applied)
+      let z = read-accepted-iff n (emptyLent n) (planOf n s) r t h plan-passed .1 (_, plan-taken) in
+      let a = read-accepted n (emptyLent n) (planOf n s) r t h z in
+      let f : Fresh (model n (plan-gained .edge)) t = subst (λ m. Fresh m t) (taken-only (records (planOf n s)) _ _ _ (a .taken) plan-taken) (a .fresh) in
+      let e : t ≡ s
+      = fresh-only n (plan-gained .edge) (edgeAt (s .words)) t s
+      (λ i j hi hj. gained-edge i j hi hj (omega (arith, f .bits i j hi hj, edge-le (t .words) i j))) f (valid-modelled valid .fresh) in
+      (a .answered ∙ ap (λ (x : Lent). answer 0 0 (setBits n (x .words))) e, e)
 
 -- and so by the two calls: what write_plan has written, read_plan reads into the empty sheet
 pub round-trip-buffer : (n : ℕ) (s : Lent) (p : List ℕ) (r : Answer) (q : List ℕ) → WritePlan n s p r q → r .number ≡ 0
