@@ -11,48 +11,36 @@ use Rattle.record.specs.declared.Record.{Record}
 use Rattle.record.specs.declared.Record.the-variants.{Insert, Delete, Malformed}
 use Rattle.answer.specs.declared.Answer.{Answer}
 use Rattle.answer.specs.Table.{First}
-use Rattle.answer.specs.Answers.{answer, decided}
+use Rattle.answer.specs.Answers.{answer}
 use Rattle.answer.proofs.TableLaws.{first-only}
 use Rattle.answer.proofs.AnswerLaws.{decided-old}
 use Rattle.edit_theory.specs.Edit.{Edit, insertEdge, deleteEdge}
-use Rattle.edit_theory.specs.Outcome.{editNumber, editWords, editAfter}
+use Rattle.edit_theory.specs.Outcome.{editNumber, editAfter}
 use Rattle.edit_theory.specs.Book.{Model}
 use Rattle.edit_theory.specs.Model.{effect, modelConditions, edgeCount}
 use Rattle.edit_theory.proofs.FreshLaws.{Modelled}
 use Rattle.edit_theory.proofs.StepLaws.{number-first, accepted-modelled}
 use Rattle.edit_lists.specs.Run.{Run, done, then, answers, after}
-use Rattle.sheet_theory.specs.Lent.{Lent, lent}
+use Rattle.sheet_theory.specs.Lent.{Lent}
 use Rattle.plan_theory.specs.Records.{recordEdits, edits, numberOn, leftBy, Applied, applied}
 use Rattle.plan_theory.specs.Taken.{RecordNumber, recordEffect, Taken, Stops}
 use Rattle.plan_theory.specs.Accepted.{Accepted}
 
 -- ---- one record
 
--- its number is the model's
-record-number : (n : ℕ) (m : Model) (s : Lent) → Modelled m s → m .vertices ≡ n → (x : Record) → RecordNumber m x (numberOn n s x)
+-- its number is the model's, and what it leaves, if it is not refused, is the sheet of what it makes of the model
+record-modelled : (n : ℕ) (m : Model) (s : Lent) → Modelled m s → m .vertices ≡ n → (x : Record)
+    → RecordNumber m x (numberOn n s x) × (numberOn n s x ≡ 0 → Modelled (recordEffect m x) (leftBy n s x))
 unfolding numberOn
-record-number n m s h q x = subst (λ y. RecordNumber m x (numberOn y s x)) q (go x)
+record-modelled n m s h q x = subst (λ y. RecordNumber m x (numberOn y s x) × (numberOn y s x ≡ 0 → Modelled (recordEffect m x) (leftBy y s x))) q (go x)
   where
-    go : (x : Record) → RecordNumber m x (numberOn (m .vertices) s x)
-    go (Insert u v) = number-first m s h (insertEdge (m .vertices) u v)
-    go (Delete u v) = number-first m s h (deleteEdge (m .vertices) u v)
-    go Malformed = refl
+    edit : (e : Edit) → First (modelConditions m e) (editNumber e s) × (editNumber e s ≡ 0 → Modelled (effect m e) (editAfter e s))
+    edit e = let f = number-first m s h e in (f, λ z. rw z (accepted-modelled m s h e (rw z at f) .1))
 
-edit-left : (m : Model) (s : Lent) → Modelled m s → (e : Edit) → editNumber e s ≡ 0 → Modelled (effect m e) (editAfter e s)
-edit-left m s h e z =
-    subst (Modelled (effect m e)) (sym (ap (λ k. decided k (lent (editWords e s)) s) z))
-    (accepted-modelled m s h e (subst (First (modelConditions m e)) z (number-first m s h e)) .1)
-
--- and what it leaves, if it is not refused, is the sheet of what it makes of the model
-record-left : (n : ℕ) (m : Model) (s : Lent) → Modelled m s → m .vertices ≡ n → (x : Record) → numberOn n s x ≡ 0
-    → Modelled (recordEffect m x) (leftBy n s x)
-unfolding numberOn
-record-left n m s h q x = subst (λ y. numberOn y s x ≡ 0 → Modelled (recordEffect m x) (leftBy y s x)) q (go x)
-  where
-    go : (x : Record) → numberOn (m .vertices) s x ≡ 0 → Modelled (recordEffect m x) (leftBy (m .vertices) s x)
-    go (Insert u v) = edit-left m s h (insertEdge (m .vertices) u v)
-    go (Delete u v) = edit-left m s h (deleteEdge (m .vertices) u v)
-    go Malformed = λ z. h
+    go : (x : Record) → RecordNumber m x (numberOn (m .vertices) s x) × (numberOn (m .vertices) s x ≡ 0 → Modelled (recordEffect m x) (leftBy (m .vertices) s x))
+    go (Insert u v) = edit (insertEdge (m .vertices) u v)
+    go (Delete u v) = edit (deleteEdge (m .vertices) u v)
+    go Malformed = (refl, λ z. h)
 
 record-vertices : (m : Model) (x : Record) → recordEffect m x .vertices ≡ m .vertices
 record-vertices m x = elim x [ Insert u v ↦ refl | Delete u v ↦ refl | Malformed ↦ refl ]
@@ -88,8 +76,9 @@ applied-taken n [] m s p h q z = (m, refl, h, q)
 applied-taken n (x ∷ l) m s p h q z =
     let k = applied-first n x l s p z in
     let e = applied-next n x l s p k in
-    let r = applied-taken n l (recordEffect m x) (leftBy n s x) (suc p) (record-left n m s h q x k) (record-vertices m x ∙ q) (rw e at z) in
-    (r .0, (subst (RecordNumber m x) k (record-number n m s h q x), r .1), rw e (r .2), r .3)
+    let f = record-modelled n m s h q x in
+    let r = applied-taken n l (recordEffect m x) (leftBy n s x) (suc p) (f .1 k) (record-vertices m x ∙ q) (rw e at z) in
+    (r .0, (subst (RecordNumber m x) k (f .0), r .1), rw e (r .2), r .3)
 
 pub applied-place : (n : ℕ) (l : List Record) (s : Lent) (p : ℕ) → applied n l s p .number ≡ 0 → applied n l s p .place ≡ 0
 unfolding applied
@@ -148,13 +137,13 @@ stops-from : (n : ℕ) (l : List Record) (m : Model) (s : Lent) (p : ℕ) → Mo
 unfolding applied
 stops-from n [] m s p h q d = absurd (d refl)
 stops-from n (x ∷ l) m s p h q d =
-    let f = record-number n m s h q x in
+    let f = record-modelled n m s h q x in
     elim (ℕ-discrete (numberOn n s x) 0) [
-      | no c ↦ rw (applied-here n x l s (suc p) c) (1, omega arith, stops-first m x l (numberOn n s x) f c)
+      | no c ↦ rw (applied-here n x l s (suc p) c) (1, omega arith, stops-first m x l (numberOn n s x) (f .0) c)
       | yes k ↦
           let e = applied-next n x l s (suc p) k in
-          let r = stops-from n l (recordEffect m x) (leftBy n s x) (suc p) (record-left n m s h q x k) (record-vertices m x ∙ q) (rw e at d) in
-          rw e (suc (r .0), omega (arith, r .1), stops-later m x l _ (r .0) (subst (RecordNumber m x) k f) (r .2))
+          let r = stops-from n l (recordEffect m x) (leftBy n s x) (suc p) (f .1 k) (record-vertices m x ∙ q) (rw e at d) in
+          rw e (suc (r .0), omega (arith, r .1), stops-later m x l _ (r .0) (subst (RecordNumber m x) k (f .0)) (r .2))
     ]
 
 pub applied-stops : (n : ℕ) (l : List Record) (m : Model) (s : Lent) → Modelled m s → m .vertices ≡ n → ¬ (applied n l s 1 .number ≡ 0)
@@ -178,56 +167,36 @@ taken-vertices (x ∷ l) m m′ p = taken-vertices l (recordEffect m x) m′ (p 
 -- how a list stops: the empty list does not, and another at its first record or after it
 abbrev Stopped : Model → List Record → ℕ → ℕ → Type 0
 Stopped m [] k p = ⊥
-Stopped m (x ∷ l) k p = (RecordNumber m x k × (¬ (k ≡ 0)) × (p ≡ 1)) ⊎ (RecordNumber m x 0 × (q : ℕ) × (p ≡ suc q) × Stops (recordEffect m x) l k q)
+Stopped m (x ∷ l) k p = (RecordNumber m x k × (¬ (k ≡ 0)) × (p ≡ 1)) ⊎ (RecordNumber m x 0 × (q : ℕ) × (p ≡ suc q) × Stopped (recordEffect m x) l k q)
 
-stops-cases : (l : List Record) (m : Model) (k p : ℕ) → Stops m l k p → Stopped m l k p
+stops-stopped : (l : List Record) (m : Model) (k p : ℕ) → Stops m l k p → Stopped m l k p
 unfolding Taken
-stops-cases l m k p o = subst (λ t. Stopped m t k p) (sym (o .split)) (go (o .before) (o .place) (o .taken))
+stops-stopped l m k p o = rw (o .split, o .place) (go (o .before) m (o .taken))
   where
-    go : (b : List Record) → p ≡ suc (length b) → Taken m b (o .model) → Stopped m (b ++ (o .at ∷ o .rest)) k p
-    go [] w t = inl (rw (← t) (o .number), o .refused, w)
-    go (y ∷ b) w t = inr (
-      t .0,
-      suc (length b),
-      w,
-      record {
-        before = b;
-        at = o .at;
-        rest = o .rest;
-        split = refl;
-        place = refl;
-        model = o .model;
-        taken = t .1;
-        number = o .number;
-        refused = o .refused;
-      },
-    )
+    go : (b : List Record) (m : Model) → Taken m b (o .model) → Stopped m (b ++ (o .at ∷ o .rest)) k (suc (length b))
+    go [] m t = inl (rw (← t) (o .number), o .refused, refl)
+    go (y ∷ b) m t = inr (t .0, suc (length b), refl, go b (recordEffect m y) (t .1))
 
 -- a list stops in one way
+stopped-only : (l : List Record) (m : Model) (k p k′ p′ : ℕ) → Stopped m l k p → Stopped m l k′ p′ → (k ≡ k′) × (p ≡ p′)
+stopped-only [] m k p k′ p′ o o′ = absurd o
+stopped-only (x ∷ l) m k p k′ p′ (inl a) (inl b) = (record-only m x k k′ (a .0) (b .0), a .2 ∙ sym (b .2))
+stopped-only (x ∷ l) m k p k′ p′ (inl a) (inr b) = absurd (a .1 (record-only m x k 0 (a .0) (b .0)))
+stopped-only (x ∷ l) m k p k′ p′ (inr a) (inl b) = absurd (b .1 (record-only m x k′ 0 (b .0) (a .0)))
+stopped-only (x ∷ l) m k p k′ p′ (inr a) (inr b) =
+    let r = stopped-only l (recordEffect m x) k (a .1) k′ (b .1) (a .3) (b .3) in (r .0, a .2 ∙ ap suc (r .1) ∙ sym (b .2))
+
 pub stops-only : (l : List Record) (m : Model) (k p k′ p′ : ℕ) → Stops m l k p → Stops m l k′ p′ → (k ≡ k′) × (p ≡ p′)
-stops-only [] m k p k′ p′ o o′ = absurd (stops-cases [] m k p o)
-stops-only (x ∷ l) m k p k′ p′ o o′ =
-    elim (stops-cases (x ∷ l) m k p o) [
-      | inl a ↦ elim (stops-cases (x ∷ l) m k′ p′ o′) [
-        | inl b ↦ (record-only m x k k′ (a .0) (b .0), a .2 ∙ sym (b .2))
-        | inr b ↦ absurd (a .1 (record-only m x k 0 (a .0) (b .0)))
-      ]
-      | inr a ↦ elim (stops-cases (x ∷ l) m k′ p′ o′) [
-        | inl b ↦ absurd (b .1 (record-only m x k′ 0 (b .0) (a .0)))
-        | inr b ↦
-            let r = stops-only l (recordEffect m x) k (a .1) k′ (b .1) (a .3) (b .3) in
-            (r .0, a .2 ∙ ap suc (r .1) ∙ sym (b .2))
-      ]
-    ]
+stops-only l m k p k′ p′ o o′ = stopped-only l m k p k′ p′ (stops-stopped l m k p o) (stops-stopped l m k′ p′ o′)
 
 pub taken-not-stops : (l : List Record) (m m′ : Model) (k p : ℕ) → Taken m l m′ → ¬ (Stops m l k p)
 unfolding Taken
-taken-not-stops [] m m′ k p t o = stops-cases [] m k p o
-taken-not-stops (x ∷ l) m m′ k p t o =
-    elim (stops-cases (x ∷ l) m k p o) [
-      | inl a ↦ a .1 (record-only m x k 0 (a .0) (t .0))
-      | inr a ↦ taken-not-stops l (recordEffect m x) m′ k (a .1) (t .1) (a .3)
-    ]
+taken-not-stops l m m′ k p t o = go l m p t (stops-stopped l m k p o)
+  where
+    go : (l : List Record) (m : Model) (p : ℕ) → Taken m l m′ → ¬ (Stopped m l k p)
+    go [] m p t o = o
+    go (x ∷ l) m p t (inl a) = a .1 (record-only m x k 0 (a .0) (t .0))
+    go (x ∷ l) m p t (inr a) = go l (recordEffect m x) (a .1) (t .1) (a .3)
 
 -- ---- as a run
 

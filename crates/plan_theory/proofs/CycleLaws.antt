@@ -1,7 +1,6 @@
 -- Which insertions of one edge close a cycle by the model, and which lists of records stop at one. Assumes nothing.
 use mathlib.Core.Path.{_≡_, refl, sym, subst}
 use mathlib.Core.Logic.{inl, inr}
-use mathlib.Core.Bool.{true, false}
 use mathlib.Core.List.{List, _∷_, _++_}
 use Prim.Native.Nat.{ℕ, suc, _≤_}
 use native.Mathlib.Nat.{lt-of-not-le}
@@ -36,12 +35,6 @@ module _ (m : Model) (u v : ℕ) where
         cycle = first-holds cs 8 f refl;
       }
 
-  closing-insert : ¬ (BadVertices (m .vertices)) → Closing (m .vertices) m u v → First (modelConditions m (insertEdge (m .vertices) u v)) 8
-  closing-insert few c = insert-first m u v few (c .from) (c .to) (c .apart) (c .new) 8 (inl (c .cycle, refl))
-
-  delete-never : ¬ (First (modelConditions m (deleteEdge (m .vertices) u v)) 8)
-  delete-never f = first-absent (modelConditions m (deleteEdge (m .vertices) u v)) 8 f refl
-
 -- ---- lists of records
 
 pub stops-closes : (m : Model) (l : List Record) (p : ℕ) → Stops m l 8 p → ClosesAt m l
@@ -58,12 +51,13 @@ stops-closes m l p o = go (o .at) (o .split) (o .number)
       taken = o .taken;
       closing = subst (λ n. Closing n (o .model) u v) (taken-vertices (o .before) m (o .model) (o .taken)) (insert-closing (o .model) u v f);
     }
-    go (Delete u v) e f = absurd (delete-never (o .model) u v f)
+    go (Delete u v) e f = absurd (first-absent (modelConditions (o .model) (deleteEdge (o .model .vertices) u v)) 8 f refl)
     go Malformed e f = absurd (omega (arith, f))
 
 pub closes-stops : (m : Model) (l : List Record) → ¬ (BadVertices (m .vertices)) → (c : ClosesAt m l) → Stops m l 8 (suc (length (c .before)))
 closes-stops m l few c =
     let q = taken-vertices (c .before) m (c .model) (c .taken) in
+    let x = subst (λ n. Closing n (c .model) (c .u) (c .v)) (sym q) (c .closing) in
     record {
       before = c .before;
       at = Insert (c .u) (c .v);
@@ -72,6 +66,6 @@ closes-stops m l few c =
       place = refl;
       model = c .model;
       taken = c .taken;
-      number = closing-insert (c .model) (c .u) (c .v) (rw q few) (subst (λ n. Closing n (c .model) (c .u) (c .v)) (sym q) (c .closing));
+      number = insert-first (c .model) (c .u) (c .v) (rw q few) (x .from) (x .to) (x .apart) (x .new) 8 (inl (x .cycle, refl));
       refused = λ e. omega (arith, e);
     }

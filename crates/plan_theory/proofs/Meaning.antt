@@ -13,7 +13,7 @@ use Rattle.record.specs.Record.{OfForm}
 use Rattle.answer.specs.declared.Answer.{Answer}
 use Rattle.answer.specs.Table.{_gives_, First}
 use Rattle.answer.specs.Answers.{answer, decided}
-use Rattle.sheet_theory.specs.Layout.{Shape, setBits}
+use Rattle.sheet_theory.specs.Layout.{setBits}
 use Rattle.sheet_theory.specs.Lent.{Lent, Lends}
 use Rattle.sheet_theory.specs.Valid.{Valid}
 use Rattle.answer.proofs.TableLaws.{first-only, first-iff, first-past, first-last, first-accepts}
