@@ -17,13 +17,13 @@ use Rattle.answer.proofs.TableLaws.{first-only}
 use Rattle.answer.proofs.AnswerLaws.{decided-old, answered-not, refused-as}
 use Rattle.sheet_theory.proofs.ShapeLaws.{shape-refused, shape-of, shape-passed, vertex-below}
 use Rattle.sheet_theory.proofs.LayoutLaws.{length-redone, row-redone, count-redone, rest-redone, redone-ext}
-use Rattle.edit_theory.specs.Edit.{Edges, one, at, Edit, edgeEdit, edgesEdit, vertexOf, predecessorsOf, successorsOf}
+use Rattle.edit_theory.specs.Edit.{Edges, one, Edit, edgeEdit, edgesEdit, vertexOf, predecessorsOf, successorsOf}
 use Rattle.edit_theory.specs.Book.{opened}
 use Rattle.edit_theory.specs.Table.{argued, mostParallel, effects, asked}
 use Rattle.edit_theory.specs.Outcome.{editedRow, edited, editGrounds, editConditions, editNumber, editWords, editAnswer, editAfter}
 use Rattle.edit_counts.specs.Internal.{Ready, countsEdited}
 use Rattle.edit.specs.Internal.{AskedNumber, EditNumber, Written, Made, Edited, rowsEdited}
-use Rattle.edit_theory.proofs.ConditionLaws.{argued-refused, argued-passed, argued-past}
+use Rattle.edit_theory.proofs.ConditionLaws.{argued-refused, argued-iff, argued-past}
 use Rattle.edit_theory.proofs.Refusals.{edit-first}
 
 -- ---- the counts and then the rows
@@ -77,32 +77,29 @@ core-refused e s k f r d = made-refused (AskedNumber e s) e s k (argued-refused 
 
 -- or as `edit_at` answers
 module _ (n : ℕ) (s : Lent) (shape : Lends n s) (k : ℕ) (z : k ≡ 0) where
-  ready : (g : Edges) → First (argued n g []) k → Ready n (s .words) (vertexOf g) (predecessorsOf g) (successorsOf g)
+  pub ready : (g : Edges) → First (argued n g []) k → Ready n (s .words) (vertexOf g) (predecessorsOf g) (successorsOf g)
   ready g f =
       let a = argued-past n g [] (rw z at f) .0 in
       record { shape = shape; vertex = a .vertex; predecessors = a .predecessors; successors = a .successors }
 
-  module _ (v a b : ℕ) (f : First (argued n (at v a b) []) k) where
-    pub masks-ready : Ready n (s .words) v a b
-    masks-ready = ready (at v a b) f
-
-    pub masks-edited : (inserts : Bool) (r : Answer) (t : Lent) → Made (EditNumber inserts n s v a b) (edgesEdit inserts n v a b) s r t
-        → Edited (edgesEdit inserts n v a b) s r t
-    unfolding AskedNumber EditNumber
-    masks-edited inserts r t h = record {
-      number = argued-passed n (at v a b) (effects inserts n mostParallel (at v a b) (opened n s) (editGrounds (edgesEdit inserts n v a b) s)) _
-          (rw z at f) (h .number);
-      answers = h .answers;
-      leaves = h .leaves;
-    }
-
-  -- one edge is the edit at its start with the mask 1 << v, as a word 1 * 2 ^ v modulo 2 ^ 64
-  same-effects : (d : Bool) (u v j : ℕ) → EditNumber d n s u 0 (2 ^ v) j
-      → First (effects d n mostParallel (one u v) (opened n s) (editGrounds (edgeEdit d n u v) s)) j
+  -- the edges g are those at their vertex by their masks
+  same-effects : (d : Bool) (g : Edges) (j : ℕ) → EditNumber d n s (vertexOf g) (predecessorsOf g) (successorsOf g) j
+      → First (effects d n mostParallel g (opened n s) (editGrounds (record { inserts = d; vertices = n; edges = g }) s)) j
   unfolding EditNumber
-  same-effects true u v j f = f
-  same-effects false u v j f = f
+  same-effects true g j f = f
+  same-effects false g j f = f
 
+  pub core-edited : (inserts : Bool) (g : Edges) → First (argued n g []) k → (r : Answer) (t : Lent)
+      → Made (EditNumber inserts n s (vertexOf g) (predecessorsOf g) (successorsOf g)) (edgesEdit inserts n (vertexOf g) (predecessorsOf g) (successorsOf g)) s r t
+      → Edited (record { inserts = inserts; vertices = n; edges = g }) s r t
+  unfolding AskedNumber
+  core-edited inserts g f r t h = record {
+    number = argued-iff n g _ _ (rw z at f) .1 (same-effects inserts g _ (h .number));
+    answers = h .answers;
+    leaves = h .leaves;
+  }
+
+  -- one edge has the mask 1 << v, as a word 1 * 2 ^ v modulo 2 ^ 64
   module _ (u v : ℕ) (f : First (argued n (one u v) []) k) where
     pub edge-shifts : v < 64
     edge-shifts = let b = vertex-below n u v [] (rw z at f) in omega (arith, shape .high)
@@ -112,15 +109,7 @@ module _ (n : ℕ) (s : Lent) (shape : Lends n s) (k : ℕ) (z : k ≡ 0) where
 
     pub edge-edited : (inserts : Bool) (r : Answer) (t : Lent)
         → Made (EditNumber inserts n s u 0 (1 * 2 ^ v % 2 ^ 64)) (edgesEdit inserts n u 0 (1 * 2 ^ v % 2 ^ 64)) s r t → Edited (edgeEdit inserts n u v) s r t
-    unfolding AskedNumber
-    edge-edited inserts r t made =
-        let h : Made (EditNumber inserts n s u 0 (2 ^ v)) (edgesEdit inserts n u 0 (2 ^ v)) s r t = rw (one-shl v edge-shifts) at made in
-        record {
-          number = argued-passed n (one u v) (effects inserts n mostParallel (one u v) (opened n s) (editGrounds (edgeEdit inserts n u v) s)) _
-              (rw z at f) (same-effects inserts u v _ (h .number));
-          answers = h .answers;
-          leaves = h .leaves;
-        }
+    edge-edited inserts r t made = core-edited inserts (one u v) f r t (rw (one-shl v edge-shifts) at made)
 
 -- ---- the calls: k is the number that every altering call looks for first
 

@@ -1,7 +1,7 @@
 -- The tests of an edit find the first of the table's conditions that holds, whatever stands for the length, the edges and the cycle, if
 -- each test decides its condition once those before it do not hold; and what is known where none holds. Assumes nothing.
 use mathlib.Core.Path.{_≡_, refl}
-use mathlib.Core.Logic.{_⊎_, inl, inr}
+use mathlib.Core.Logic.{_⊎_, inl, inr, _↔_}
 use mathlib.Core.Bool.{Bool, true, false, not}
 use mathlib.Core.List.{[]}
 use Prim.Native.Nat.{ℕ, _^_, _≤_, _<_}
@@ -55,13 +55,13 @@ pub argued-refused : (n : ℕ) (g : Edges) (cs : Conditions) (k : ℕ) → First
 argued-refused n (one u v) cs k f d = first-more (argued n (one u v) []) cs k f d
 argued-refused n (at v a b) cs k f d = first-more (argued n (at v a b) []) cs k f d
 
-pub argued-passed : (n : ℕ) (g : Edges) (cs : Conditions) (k : ℕ) → First (argued n g []) 0 → First cs k → First (argued n g cs) k
-argued-passed n (one u v) cs k f x = inr (first-past f .0, x)
-argued-passed n (at v a b) cs k f x = let p = first-past f in inr (p .0, inr (first-past (p .1) .0, x))
-
-pub argued-rest : (n : ℕ) (g : Edges) (cs : Conditions) (k : ℕ) → First (argued n g []) 0 → First (argued n g cs) k → First cs k
-argued-rest n (one u v) cs k f x = first-rest (first-past f .0) x
-argued-rest n (at v a b) cs k f x = let p = first-past f in first-rest (first-past (p .1) .0) (first-rest (p .0) x)
+-- where the arguments are in order, the conditions after them give the number
+pub argued-iff : (n : ℕ) (g : Edges) (cs : Conditions) (k : ℕ) → First (argued n g []) 0 → First (argued n g cs) k ↔ First cs k
+argued-iff n (one u v) cs k f = let p = first-past f in (first-rest (p .0), λ x. inr (p .0, x))
+argued-iff n (at v a b) cs k f =
+    let p = first-past f in
+    let q = first-past (p .1) in
+    (λ x. first-rest (q .0) (first-rest (p .0) x), λ x. inr (p .0, inr (q .0, x)))
 
 pub argued-past : (n : ℕ) (g : Edges) (cs : Conditions) → First (argued n g cs) 0 → Argued n g × First cs 0
 argued-past n (one u v) cs f = let p = first-past f in (argued-one n u v (p .0), p .1)

@@ -18,7 +18,7 @@ use Rattle.graph.proofs.Walks.{paths-cong, cycle-cong}
 use Rattle.graph.proofs.Counting.{pathCount-exact}
 use Rattle.graph.proofs.Bound.{paths-below}
 use Rattle.sheet_theory.specs.Layout.{size, rowAt, countAt, edgeAt, setBits, redone}
-use Rattle.sheet_theory.specs.Lent.{Lent, lent, Lends}
+use Rattle.sheet_theory.specs.Lent.{Lent, lent}
 use Rattle.sheet_theory.specs.Valid.{Valid}
 use Rattle.sheet_theory.specs.Internal.{RowsBelow}
 use Rattle.sheet_theory.proofs.StrayLaws.{rows-iff}
@@ -37,12 +37,9 @@ pub record Modelled (m : Model) (s : Lent) : Type 0 where
   pub fresh : Fresh m s
 
 module _ {m : Model} {s : Lent} (h : Modelled m s) where
-  modelled-shape : Lends (m .vertices) s
-  modelled-shape = record { low = h .low; high = h .high; long = h .fresh .long }
-
   pub modelled-valid : Valid (m .vertices) s
   modelled-valid = record {
-    shape = modelled-shape;
+    shape = record { low = h .low; high = h .high; long = h .fresh .long };
     rows = h .fresh .rows;
     acyclic = λ c. h .acyclic (cycle-cong (m .vertices) (edgeAt (s .words)) (m .edge) (h .fresh .bits) c);
     counts = λ i j hi hj. paths-cong (m .vertices) (m .edge) (edgeAt (s .words)) (λ x y hx hy. sym (h .fresh .bits x y hx hy)) i j _ (h .fresh .counts i j hi hj);

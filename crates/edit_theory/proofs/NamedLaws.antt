@@ -2,7 +2,7 @@
 -- from v to a successor, and 0 for any other. Assumes nothing.
 use mathlib.Core.Path.{_≡_, refl, sym, ap, subst, _∙_}
 use mathlib.Core.Logic.{_⊎_, inl, inr, _↔_}
-use mathlib.Core.Bool.{Bool, true, false, false≢true}
+use mathlib.Core.Bool.{Bool, true, false}
 use Prim.Native.Nat.{ℕ, zero, suc, _+_, _*_, _^_, _≤_, _<_}
 use native.Mathlib.Nat.{zero-mul, mul-zero, mul-comm}
 use native.Mathlib.Decide.{ℕ-discrete}
@@ -13,19 +13,14 @@ use Rattle.sums.proofs.SumLaws.{delta-refl, delta-diff}
 use Rattle.word.specs.Bit.{bit}
 use Rattle.word.proofs.BitLaws.{bit-cases, bit-zero, bit-above-zero}
 use Rattle.word.proofs.MaskLaws.{bit-pow}
+use Rattle.answer.proofs.TableLaws.{reflects-false}
 use Rattle.edit_theory.specs.Edit.{one, at, namedAt, named, oneIf, marked, changed}
 use Rattle.edit_theory.specs.Table.{SomeEdge}
-use Rattle.edit_theory.proofs.TestLaws.{named-of, named-into, named-out}
+use Rattle.edit_theory.proofs.TestLaws.{named-reflects, named-of, named-out}
 
 -- masks name the edges from the predecessors to v and from v to the successors, and no other
 pub named-at : (v a b i j : ℕ) → (named (at v a b) i j ≡ true) ↔ (((bit a i ≡ 1) × (j ≡ v)) ⊎ ((i ≡ v) × (bit b j ≡ 1)))
-named-at v a b i j = (
-  named-of v a b i j,
-  λ c. elim c [
-    | inl p ↦ subst (λ x. namedAt v a b i x ≡ true) (sym (p .1)) (named-into v a b i (p .0))
-    | inr p ↦ subst (λ x. namedAt v a b x j ≡ true) (sym (p .0)) (named-out v a b j (p .1))
-  ],
-)
+named-at v a b i j = let r = named-reflects v a b i j in (r .holds, r .shows)
 
 bit-delta : (x i j v : ℕ) → ¬ ((bit x i ≡ 1) × (j ≡ v)) → bit x i * delta j v ≡ 0
 bit-delta x i j v h = elim (bit-cases x i) [ inl z ↦ rw z (zero-mul (delta j v)) | inr o ↦ rw (delta-diff j v (λ q. h (o, q))) (mul-zero (bit x i)) ]
@@ -33,10 +28,9 @@ bit-delta x i j v h = elim (bit-cases x i) [ inl z ↦ rw z (zero-mul (delta j v
 module _ (v a b : ℕ) where
   -- an edge that is not named is counted on neither side
   unnamed : (i j : ℕ) → namedAt v a b i j ≡ false → (bit a i * delta j v ≡ 0) × (delta i v * bit b j ≡ 0)
-  unnamed i j e = (bit-delta a i j v (λ p. no (inl p)), mul-comm (delta i v) (bit b j) ∙ bit-delta b j i v (λ p. no (inr (p .1, p .0))))
-    where
-      no : ¬ (((bit a i ≡ 1) × (j ≡ v)) ⊎ ((i ≡ v) × (bit b j ≡ 1)))
-      no c = false≢true (sym e ∙ named-at v a b i j .1 c)
+  unnamed i j e =
+      let no = reflects-false (named-reflects v a b i j) .0 e in
+      (bit-delta a i j v (λ p. no (inl p)), mul-comm (delta i v) (bit b j) ∙ bit-delta b j i v (λ p. no (inr (p .1, p .0))))
 
   pub named-number : bit a v ≡ 0 → (i j : ℕ) → oneIf (namedAt v a b i j) ≡ bit a i * delta j v + delta i v * bit b j
   named-number z i j = go (namedAt v a b i j) refl
@@ -53,15 +47,9 @@ module _ (v a b : ℕ) where
 
   -- no edge to a vertex at n or above is named
   pub named-below : (n i j : ℕ) → v < n → b < 2 ^ n → n ≤ j → namedAt v a b i j ≡ false
-  named-below n i j hv hb h = go (namedAt v a b i j) refl
-    where
-      go : (t : Bool) → namedAt v a b i j ≡ t → t ≡ false
-      go false e = refl
-      go true e =
-          elim (named-of v a b i j e) [
-            | inl p ↦ absurd (omega (arith, p .1))
-            | inr p ↦ absurd (omega (arith, p .1, bit-above-zero b n j hb h))
-          ]
+  named-below n i j hv hb h =
+      reflects-false (named-reflects v a b i j) .1
+      (λ c. elim c [ inl p ↦ omega (arith, p .1) | inr p ↦ omega (arith, p .1, bit-above-zero b n j hb h) ])
 
 -- one edge from u to v names that edge alone
 pub named-one : (u v i j : ℕ) → (named (one u v) i j ≡ true) ↔ ((i ≡ u) × (j ≡ v))

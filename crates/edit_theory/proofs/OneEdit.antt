@@ -24,7 +24,7 @@ use Rattle.edit_theory.specs.Book.{Model, opened}
 use Rattle.edit_theory.specs.Model.{effect, modelGrounds, modelConditions, Step, MayInsert, Fresh}
 use Rattle.edit_theory.specs.Change.{Changed}
 use Rattle.edit_theory.proofs.FreshLaws.{modelled-valid, valid-modelled}
-use Rattle.edit_theory.proofs.ConditionLaws.{argued-rest, passed}
+use Rattle.edit_theory.proofs.ConditionLaws.{argued-iff, passed}
 use Rattle.edit_theory.proofs.StepLaws.{number-first, accepted-modelled, edit-step, step-only}
 
 module _ (n : ℕ) (s : Lent) (valid : Valid n s) where
@@ -43,7 +43,7 @@ module _ (n : ℕ) (s : Lent) (valid : Valid n s) where
   edit-effects inserts g ok =
       let f = number-first (opened n s) s (valid-modelled valid) (record { inserts = inserts; vertices = n; edges = g }) in
       let few : ¬ (BadVertices n) = λ c. elim c [ inl l ↦ omega (arith, valid .shape .low) | inr l ↦ omega (arith, valid .shape .high) ] in
-      argued-rest n g _ _ ok (first-rest (λ d. d refl) (first-rest few f))
+      argued-iff n g _ _ ok .0 (first-rest (λ d. d refl) (first-rest few f))
 
   -- CYCLES: once the earlier conditions do not hold, an insertion is refused by 8 exactly if there is a cycle among the edges and all those
   -- to insert together, and else it is accepted

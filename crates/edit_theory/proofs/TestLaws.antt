@@ -42,7 +42,7 @@ reflects-self t = record { holds = λ e. e; shows = λ e. e }
 reflects-bit : (x j : ℕ) → Reflects (hasBit x j) (bit x j ≡ 1)
 reflects-bit x j = reflects-eq (bit x j) 1
 
-named-reflects : (v a b i j : ℕ) → Reflects (namedAt v a b i j) (((bit a i ≡ 1) × (j ≡ v)) ⊎ ((i ≡ v) × (bit b j ≡ 1)))
+pub named-reflects : (v a b i j : ℕ) → Reflects (namedAt v a b i j) (((bit a i ≡ 1) × (j ≡ v)) ⊎ ((i ≡ v) × (bit b j ≡ 1)))
 named-reflects v a b i j = reflects-or (reflects-and (reflects-bit a i) (reflects-eq j v)) (reflects-and (reflects-eq i v) (reflects-bit b j))
 
 pub named-of : (v a b i j : ℕ) → namedAt v a b i j ≡ true → ((bit a i ≡ 1) × (j ≡ v)) ⊎ ((i ≡ v) × (bit b j ≡ 1))

@@ -1,7 +1,8 @@
 -- `edit::edit_edges_core` meets its contract: each way out is a law of EditLaws. Assumes nothing.
 use borrow.Author.Needs.{needs}
 use Rattle.sheet_theory.specs.Lent.{lent}
-use Rattle.edit.proofs.EditLaws.{masks-ready, core-refused, masks-edited}
+use Rattle.edit_theory.specs.Edit.{at}
+use Rattle.edit.proofs.EditLaws.{core-refused, ready, core-edited}
 use Rattle.edit.proofs.edit_edges_core.Statement.{statement}
 use Rattle.edit.proofs.edit_edges_core.Tie as tie
 
@@ -12,10 +13,11 @@ edit-at-requires : tie.Need-edit-at-requires
 edit-at-requires c κs =
     let checked = c .before .before in
     let start = checked .before .before in
-    masks-ready _ (lent (start .args .sheet .now)) (start .pre) _ (c .before .if1 .left) _ _ _ (checked .masks-number .ensures)
+    let a = start .args in
+    ready _ (lent (a .sheet .now)) (start .pre) _ (c .before .if1 .left) (at (a .v) (a .predecessors) (a .successors)) (checked .masks-number .ensures)
 
 returns-2 : tie.Need-returns-2
-returns-2 c = search masks-edited
+returns-2 c = search core-edited
 
 pub edit-edges-core-spec : {M : Type 1} → statement M
 edit-edges-core-spec = tie.close (tie.spec (λ c κs. search needs) (λ c κs. search needs) returns edit-at-requires (λ c. search needs) returns-2)
