@@ -20,7 +20,7 @@ use Rattle.sheet_theory.proofs.LayoutLaws.{length-redone, row-redone, count-red
 use Rattle.edit_theory.specs.Edit.{Edges, one, Edit, edgeEdit, edgesEdit, vertexOf, predecessorsOf, successorsOf}
 use Rattle.edit_theory.specs.Book.{opened}
 use Rattle.edit_theory.specs.Table.{argued, mostParallel, effects, asked}
-use Rattle.edit_theory.specs.Outcome.{editedRow, edited, editGrounds, editConditions, editNumber, editWords, editAnswer, editAfter}
+use Rattle.edit_theory.specs.Outcome.{editedRow, edited, editGrounds, editConditions, editNumber, editWords, editMade, editAnswer, editAfter}
 use Rattle.edit_counts.specs.Internal.{Ready, countsEdited}
 use Rattle.edit.specs.Internal.{AskedNumber, EditNumber, Written, Made, Edited, rowsEdited}
 use Rattle.edit_theory.proofs.ConditionLaws.{argued-refused, argued-iff, argued-past}
@@ -116,7 +116,7 @@ module _ (n : ℕ) (s : Lent) (shape : Lends n s) (k : ℕ) (z : k ≡ 0) where
 module _ (e : Edit) (s : Lent) (k : ℕ) (f : First (altering (e .vertices) s []) k) (r : Answer) where
   pub call-refused : (k ≡ 0 → ⊥) → r ≡ answer k 0 0 → (r ≡ editAnswer e s) × (s ≡ editAfter e s)
   call-refused d er =
-      refused-as (editConditions e s) k _ (shape-refused (e .vertices) s k f d (asked e mostParallel (opened (e .vertices) s) (editGrounds e s))) (edit-first e s) (lent (editWords e s)) s _ r d er
+      refused-as (editConditions e s) k _ (shape-refused (e .vertices) s k f d (asked e mostParallel (opened (e .vertices) s) (editGrounds e s))) (edit-first e s) (editMade e s) s _ r d er
 
   -- the number of the core is the call's
   pub call-edited : (t : Lent) → k ≡ 0 → Edited e s r t → (r ≡ editAnswer e s) × (t ≡ editAfter e s)
@@ -126,5 +126,5 @@ module _ (e : Edit) (s : Lent) (k : ℕ) (f : First (altering (e .vertices) s []
       first-only (editConditions e s) (r .number) (editNumber e s)
       (shape-passed (e .vertices) s (shape-of (e .vertices) s k f z) (asked e mostParallel (opened (e .vertices) s) (editGrounds e s)) _ (h .number)) (edit-first e s) in (
         h .answers ∙ ap (λ (y : ℕ). answered y (setBits (e .vertices) (editWords e s))) q,
-        h .leaves ∙ ap (λ (y : ℕ). decided y (lent (editWords e s)) s) q,
+        h .leaves ∙ ap (λ (y : ℕ). decided y (editMade e s) s) q,
       )

@@ -9,11 +9,11 @@ use Rattle.answer.specs.declared.Answer.{Answer}
 use Rattle.answer.specs.Table.{First}
 use Rattle.answer.specs.Answers.{decided, answered}
 use Rattle.sheet_theory.specs.Layout.{countAt, setBits, redone}
-use Rattle.sheet_theory.specs.Lent.{Lent, lent}
+use Rattle.sheet_theory.specs.Lent.{Lent}
 use Rattle.edit_theory.specs.Edit.{at, Edit, edgesEdit, oneIf, marked}
 use Rattle.edit_theory.specs.Book.{opened}
 use Rattle.edit_theory.specs.Table.{SomeOf, mostParallel, effects, asked}
-use Rattle.edit_theory.specs.Outcome.{editedRow, edited, editGrounds, editWords}
+use Rattle.edit_theory.specs.Outcome.{editedRow, edited, editGrounds, editWords, editMade}
 
 -- ---- the core
 
@@ -33,7 +33,7 @@ pub record Written (inserts : Bool) (n : ℕ) (s : List ℕ) (v a b x : ℕ) (t 
 pub record Made (Number : ℕ → Type 0) (e : Edit) (s : Lent) (r : Answer) (t : Lent) : Type 0 where
   pub number : Number (r .number)
   pub answers : r ≡ answered (r .number) (setBits (e .vertices) (editWords e s))
-  pub leaves : t ≡ decided (r .number) (lent (editWords e s)) s
+  pub leaves : t ≡ decided (r .number) (editMade e s) s
 
 abbrev pub Edited : Edit → Lent → Answer → Lent → Type 0
 Edited e s r t = Made (AskedNumber e s) e s r t

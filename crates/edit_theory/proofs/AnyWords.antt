@@ -6,13 +6,13 @@ use Rattle.word.specs.Bit.{bit}
 use Rattle.graph.specs.Update.{fromSum, toSum}
 use Rattle.answer.specs.Answers.{decided}
 use Rattle.sheet_theory.specs.Layout.{size, rowAt, countAt, setBits}
-use Rattle.sheet_theory.specs.Lent.{Lent, lent}
+use Rattle.sheet_theory.specs.Lent.{Lent}
 use Rattle.sheet_theory.proofs.ShapeLaws.{accepted-shape}
 use Rattle.sheet_theory.proofs.LayoutLaws.{length-redone, row-redone, count-redone}
 use Rattle.edit_theory.specs.Edit.{Edit, vertexOf, predecessorsOf, successorsOf, named, marked}
 use Rattle.edit_theory.specs.Book.{opened}
 use Rattle.edit_theory.specs.Table.{mostParallel, asked}
-use Rattle.edit_theory.specs.Outcome.{editedBy, editedCount, edited, editGrounds, editWords, editAnswer, editAfter}
+use Rattle.edit_theory.specs.Outcome.{editedBy, editedCount, edited, editGrounds, editWords, editMade, editAnswer, editAfter}
 use Rattle.edit_theory.proofs.EditedRow.{bit-edited}
 use Rattle.edit_theory.proofs.Refusals.{edit-table}
 
@@ -30,8 +30,8 @@ module _ (e : Edit) (s : Lent) (z : editAnswer e s .number ≡ 0) where
   long : length (s .words) ≡ size n
   long = accepted-shape n s (asked e mostParallel (opened n s) (editGrounds e s)) (edit-table e s 0 .0 z) .long
 
-  after : editAfter e s ≡ lent (editWords e s)
-  after = ap (λ k. decided k (lent (editWords e s)) s) z
+  after : editAfter e s ≡ editMade e s
+  after = ap (λ k. decided k (editMade e s) s) z
 
   -- as many words as before
   pub edit-length : length (editAfter e s .words) ≡ length (s .words)

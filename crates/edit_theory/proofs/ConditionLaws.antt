@@ -2,17 +2,15 @@
 -- each test decides its condition once those before it do not hold; and what is known where none holds. Assumes nothing.
 use mathlib.Core.Path.{_≡_, refl}
 use mathlib.Core.Logic.{_⊎_, inl, inr, _↔_}
-use mathlib.Core.Bool.{Bool, true, false, not}
+use mathlib.Core.Bool.{Bool, true, false}
 use mathlib.Core.List.{[]}
 use Prim.Native.Nat.{ℕ, _^_, _≤_, _<_}
 use native.Mathlib.Nat.{lt-of-not-le}
 use lib.Dec.{leb, eqb}
-use lib.ListN.{length}
 use lib.Pow.{pow-lt, pow-pos}
 use Rattle.answer.specs.Table.{Conditions, First, Tests, Reflects}
-use Rattle.sheet_theory.specs.Layout.{size}
 use Rattle.sheet_theory.specs.Lent.{Lent, multAt}
-use Rattle.sheet_theory.specs.Conditions.{BadVertices, StrayBit}
+use Rattle.sheet_theory.specs.Conditions.{BadVertices, StrayBit, lengthTest}
 use Rattle.answer.proofs.TableLaws.{Agree, reflects-iff, reflects-or, reflects-lt, reflects-le, reflects-eq, first-past, first-rest, first-more}
 use Rattle.answer.proofs.ByNumber.{first-not}
 use Rattle.sheet_theory.proofs.StrayLaws.{stray-iff, stray-not}
@@ -99,7 +97,7 @@ module _ (n most : ℕ) (g : Edges) (x m : Model) (same : (i j : ℕ) → i < n 
 -- ---- THE TABLE
 
 module _ (e : Edit) (s : Lent) (m : Model) (grounds : Grounds) where
-  pub table-agree : Reflects (not (eqb (length (s .words)) (size (e .vertices)))) (grounds .other)
+  pub table-agree : Reflects (lengthTest (e .vertices) s) (grounds .other)
       → (¬ (grounds .other) → (i j : ℕ) → i < e .vertices → j < e .vertices → multAt (e .vertices) s i j ≡ m .edge i j)
       → (¬ (grounds .other) → Argued (e .vertices) (e .edges) → e .inserts ≡ true
       → First (clashes true (e .vertices) mostParallel (e .edges) m []) 0

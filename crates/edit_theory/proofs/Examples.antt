@@ -15,24 +15,24 @@ use Rattle.edit_theory.specs.Edit.{insertEdge, insertEdgesAt, deleteEdge
 use Rattle.edit_theory.specs.Outcome.{some, someEdge, editedRow, editedBy, editedCount, edited, editAnswer, editAfter}
 
 -- each number, with the condition of the next one true as well where there is one
-pub other-length : editAnswer (insertEdge 4 4 4) (lent D) ≡ answer 2 0 0
+pub other-length : editAnswer (insertEdge 4 4 4) D ≡ answer 2 0 0
 unfolding D size firstTrue
 other-length = refl
 
-pub no-vertex : editAnswer (insertEdgesAt 5 5 32 0) (lent D) ≡ answer 3 0 0
+pub no-vertex : editAnswer (insertEdgesAt 5 5 32 0) D ≡ answer 3 0 0
 unfolding D size firstTrue
 no-vertex = refl
 
-pub stray-into : editAnswer (insertEdgesAt 5 0 33 0) (lent D) ≡ answer 4 0 0
+pub stray-into : editAnswer (insertEdgesAt 5 0 33 0) D ≡ answer 4 0 0
 unfolding D size firstTrue
 stray-into = refl
 
-pub present-into : editAnswer (insertEdgesAt 5 1 1 1) (lent D) ≡ answer 6 0 0
+pub present-into : editAnswer (insertEdgesAt 5 1 1 1) D ≡ answer 6 0 0
 unfolding D size firstTrue some someEdge
 present-into = refl
 
 -- 5 comes before 6: 0 to 0, with 0 to 1 that is there
-pub loop-first : editAnswer (insertEdgesAt 5 0 1 2) (lent D) ≡ answer 5 0 0
+pub loop-first : editAnswer (insertEdgesAt 5 0 1 2) D ≡ answer 5 0 0
 unfolding D size firstTrue some someEdge
 loop-first = refl
 

@@ -5,13 +5,13 @@ use mathlib.Core.Logic.{_↔_}
 use Prim.Native.Nat.{ℕ}
 use Rattle.answer.specs.Table.{First}
 use Rattle.answer.specs.Answers.{answer}
-use Rattle.sheet_theory.specs.Lent.{Lent, lent}
+use Rattle.sheet_theory.specs.Lent.{Lent}
 use Rattle.answer.proofs.TableLaws.{first-true, first-iff}
 use Rattle.answer.proofs.AnswerLaws.{decided-old, answered-not}
 use Rattle.sheet_theory.proofs.ShapeLaws.{length-test}
 use Rattle.edit_theory.specs.Edit.{Edit}
 use Rattle.edit_theory.specs.Book.{opened}
-use Rattle.edit_theory.specs.Outcome.{editGrounds, editConditions, editTests, editNumber, editWords, editAnswer, editAfter}
+use Rattle.edit_theory.specs.Outcome.{editGrounds, editConditions, editTests, editNumber, editMade, editAnswer, editAfter}
 use Rattle.edit_theory.proofs.TestLaws.{closes-reflects}
 use Rattle.edit_theory.proofs.ConditionLaws.{table-agree}
 
@@ -26,4 +26,4 @@ edit-table e s k = first-iff (editConditions e s) (editNumber e s) k (edit-first
 
 -- a refused edit has the value 0 and changes no word
 pub edit-refused : (e : Edit) (s : Lent) → ¬ (editAnswer e s .number ≡ 0) → (editAnswer e s ≡ answer (editNumber e s) 0 0) × (editAfter e s ≡ s)
-edit-refused e s d = (answered-not (editNumber e s) _ d, decided-old (editNumber e s) (lent (editWords e s)) s d)
+edit-refused e s d = (answered-not (editNumber e s) _ d, decided-old (editNumber e s) (editMade e s) s d)

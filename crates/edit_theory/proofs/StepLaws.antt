@@ -32,7 +32,7 @@ use Rattle.answer.proofs.AnswerLaws.{answer-ext}
 use Rattle.sheet_theory.proofs.LayoutLaws.{size-only}
 use Rattle.edit_theory.specs.Edit.{Edges, at, Edit, vertexOf, predecessorsOf, successorsOf, namedAt, named, marked, changed}
 use Rattle.edit_theory.specs.Table.{mostParallel, clashes, effects}
-use Rattle.edit_theory.specs.Outcome.{closes, editedRow, editedBy, editedCount, edited, editNumber, editWords, editTests, editAnswer, editAfter}
+use Rattle.edit_theory.specs.Outcome.{closes, editedRow, editedBy, editedCount, edited, editNumber, editWords, editMade, editTests, editAnswer, editAfter}
 use Rattle.edit_theory.specs.Book.{Model}
 use Rattle.edit_theory.specs.Model.{effect, modelGrounds, modelConditions, Step, edgeCount}
 use Rattle.edit_theory.proofs.TestLaws.{closes-reflects, named-into}
@@ -183,7 +183,7 @@ module _ (m : Model) (s : Lent) (h : Modelled m s) (v a b : ℕ) (ok : InOrder (
 -- an edit of the edges g that no condition refuses leaves the sheet of the edges afterwards
 effect-modelled : (m : Model) (s : Lent) (h : Modelled m s) (g : Edges) → Argued (m .vertices) g → (inserts : Bool) →
     let e : Edit = record { inserts = inserts; vertices = m .vertices; edges = g } in
-    First (effects inserts (m .vertices) mostParallel g m (modelGrounds m e)) 0 → Modelled (effect m e) (lent (editWords e s))
+    First (effects inserts (m .vertices) mostParallel g m (modelGrounds m e)) 0 → Modelled (effect m e) (editMade e s)
 effect-modelled m s h g ok true f =
     let not = first-not (effects true (m .vertices) mostParallel g m (modelGrounds m (record { inserts = true; vertices = m .vertices; edges = g }))) 0 f in
     insert-modelled m s h (vertexOf g) (predecessorsOf g) (successorsOf g) ok (inr (not 5 refl, inr (not 6 refl, refl))) (not 8 refl)
@@ -218,7 +218,7 @@ module _ (m : Model) (s : Lent) (h : Modelled m s) (e : Edit) where
       (λ d a i. subst CycleShown (sym (same-vertices d)) (cycle-shown i) a))
 
   -- an edit that is not refused says the model's own number of vertices, and leaves the sheet of the model afterwards
-  pub accepted-modelled : First (modelConditions m e) 0 → (e .vertices ≡ m .vertices) × Modelled (effect m e) (lent (editWords e s))
+  pub accepted-modelled : First (modelConditions m e) 0 → (e .vertices ≡ m .vertices) × Modelled (effect m e) (editMade e s)
   accepted-modelled f =
       let p = passed e s m (modelGrounds m e) f in
       let q = same-vertices (p .same) in
@@ -227,14 +227,14 @@ module _ (m : Model) (s : Lent) (h : Modelled m s) (e : Edit) where
       Done : ℕ → Type 0
       Done x =
           let d : Edit = record { inserts = e .inserts; vertices = x; edges = e .edges } in
-          Argued x (e .edges) → First (effects (e .inserts) x mostParallel (e .edges) m (modelGrounds m d)) 0 → Modelled (effect m d) (lent (editWords d s))
+          Argued x (e .edges) → First (effects (e .inserts) x mostParallel (e .edges) m (modelGrounds m d)) 0 → Modelled (effect m d) (editMade d s)
 
   -- ONE EDIT: the model, given e, answers what the edit answers, and the sheet is again the model's
   pub edit-step : (m′ : Model) × Step m e (editAnswer e s) m′ × Modelled m′ (editAfter e s) × (m′ .vertices ≡ m .vertices)
   edit-step = go (editNumber e s) number-first
     where
       go : (k : ℕ) → First (modelConditions m e) k
-          → (m′ : Model) × Step m e (answered k (setBits (e .vertices) (editWords e s))) m′ × Modelled m′ (decided k (lent (editWords e s)) s)
+          → (m′ : Model) × Step m e (answered k (setBits (e .vertices) (editWords e s))) m′ × Modelled m′ (decided k (editMade e s) s)
           × (m′ .vertices ≡ m .vertices)
       go zero f =
           let a = accepted-modelled f in

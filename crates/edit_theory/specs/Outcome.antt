@@ -97,10 +97,13 @@ module _ (e : Edit) (s : Lent) where
   abbrev pub editWords : List ℕ
   editWords = edited (e .inserts) (e .vertices) (s .words) (vertexOf (e .edges)) (predecessorsOf (e .edges)) (successorsOf (e .edges))
 
+  abbrev pub editMade : Lent
+  editMade = lent editWords
+
   -- what e answers on s
   abbrev pub editAnswer : Answer
   editAnswer = answered editNumber (setBits (e .vertices) editWords)
 
   -- what e leaves of s
   abbrev pub editAfter : Lent
-  editAfter = decided editNumber (lent editWords) s
+  editAfter = decided editNumber editMade s

@@ -18,22 +18,22 @@ use Rattle.query_theory.specs.Rank.{someNoVertex, gap, broken, rankAnswe
 -- ---- the answers
 
 -- 10 comes before 11
-pub short-buffer : unrankAnswer 5 (lent D) 0 3 2 4 ≡ answer 10 0 0
+pub short-buffer : unrankAnswer 5 D 0 3 2 4 ≡ answer 10 0 0
 unfolding D size firstTrue
 short-buffer = refl
 
 -- a vertex that is not there is found wherever it stands, before a missing edge
-pub no-vertex : rankAnswer 5 (lent D) (0 ∷ 3 ∷ 5 ∷ []) ≡ answer 3 0 0
+pub no-vertex : rankAnswer 5 D (0 ∷ 3 ∷ 5 ∷ []) ≡ answer 3 0 0
 unfolding D size firstTrue someNoVertex
 no-vertex = refl
 
 -- 3 is looked for in the edge's vertices too, before 7
-pub edge-no-vertex : reachesWithoutAnswer 5 (lent D) 0 3 5 1 ≡ answer 3 0 0
+pub edge-no-vertex : reachesWithoutAnswer 5 D 0 3 5 1 ≡ answer 3 0 0
 unfolding D size firstTrue
 edge-no-vertex = refl
 
 -- 3 comes before 10
-pub vertex-before-buffer : unrankAnswer 5 (lent D) 5 3 2 4 ≡ answer 3 0 0
+pub vertex-before-buffer : unrankAnswer 5 D 5 3 2 4 ≡ answer 3 0 0
 unfolding D size firstTrue
 vertex-before-buffer = refl
 

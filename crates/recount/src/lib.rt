@@ -7,7 +7,7 @@ ghost use Rattle.sheet_theory.specs.Layout.{Shape};
 ghost use Rattle.sheet_theory.specs.Lent.{lent};
 ghost use Rattle.sheet_theory.specs.Valid.{Valid, notValid, validConditions, alteringValid};
 ghost use Rattle.sheet_theory.specs.Internal.{RowsBelow};
-ghost use Rattle.recount_theory.specs.Calls.{Recount, Validate};
+ghost use Rattle.recount_theory.specs.Calls.{rowConditions, RecountBy, Recount, Validate};
 ghost use Rattle.vertex_counts.specs.Internal.{counted};
 ghost use Rattle.order.specs.Internal.{Ordered};
 use sheet::Answer;
@@ -29,7 +29,7 @@ fn fill_counts(n: usize, sheet: &mut [u64], order: &[usize; Sheet::VERTICES])
 // Internal: the counts of a sheet of the right shape, worked out afresh from the rows. Refused by 4, 8, before a word is written.
 pub fn recount_core(n: usize, sheet: &mut [u64]) -> Answer
     requires { ⌜ Shape n (now sheet) ⌝ }
-    ensures { λ r. ⌜ Recount n (lent (now (sheet .entry))) r (lent (now (sheet .exit))) ⌝ }
+    ensures { λ r. ⌜ RecountBy (rowConditions n (lent (now (sheet .entry)))) n (lent (now (sheet .entry))) r (lent (now (sheet .exit))) ⌝ }
 {
     if sheet::checks::has_stray_row(n, sheet) {
         return Answer::refused(Refusal::STRAY_BIT);

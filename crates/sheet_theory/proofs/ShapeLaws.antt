@@ -13,12 +13,12 @@ use lib.ListN.{length}
 use Rattle.answer.specs.Table.{Conditions, First, Tests, Reflects}
 use Rattle.sheet_theory.specs.Layout.{size}
 use Rattle.sheet_theory.specs.Lent.{Lent, Lends}
-use Rattle.sheet_theory.specs.Conditions.{BadVertices, BadLength, vertexConditions, vertexTests, sized, sizedTests}
+use Rattle.sheet_theory.specs.Conditions.{BadVertices, BadLength, lengthTest, vertexConditions, vertexTests, sized, sizedTests}
 use Rattle.answer.proofs.TableLaws.{Agree, reflects-or, reflects-not, reflects-lt, reflects-le, reflects-eq, first-rest, first-more}
 use Rattle.answer.proofs.ByNumber.{first-not, first-after}
 
 -- whether a sheet has the number of words
-pub length-test : (n : ℕ) (s : Lent) → Reflects (not (eqb (length (s .words)) (size n))) (BadLength n s)
+pub length-test : (n : ℕ) (s : Lent) → Reflects (lengthTest n s) (BadLength n s)
 unfolding BadLength
 length-test n s = reflects-not (reflects-eq (length (s .words)) (size n))
 

@@ -2,7 +2,7 @@
 -- Assumes nothing.
 use mathlib.Core.Path.{_≡_}
 use mathlib.Core.Logic.{_⊎_}
-use mathlib.Core.Bool.{not, _||_}
+use mathlib.Core.Bool.{Bool, not, _||_}
 use mathlib.Core.List.{List, _∷_}
 use Prim.Native.Nat.{ℕ, _≤_, _<_}
 use lib.Dec.{ltb, leb, eqb}
@@ -19,6 +19,9 @@ BadVertices n = (n < 1) ⊎ (mostVertices < n)
 -- 2: the sheet isn't n + n × n words
 unfoldable pub BadLength : ℕ → Lent → Type 0
 BadLength n s = ¬ (length (s .words) ≡ size n)
+
+abbrev pub lengthTest : ℕ → Lent → Bool
+lengthTest n s = not (eqb (length (s .words)) (size n))
 
 -- 3: a vertex is n or more
 abbrev pub NoVertex : ℕ → ℕ → Type 0
@@ -44,7 +47,7 @@ abbrev pub sized : ℕ → Lent → Conditions → Conditions
 sized n s l = BadVertices n gives 1 ∷ BadLength n s gives 2 ∷ l
 
 abbrev pub sizedTests : ℕ → Lent → Tests → Tests
-sizedTests n s l = (ltb n 1 || ltb mostVertices n) gives 1 ∷ not (eqb (length (s .words)) (size n)) gives 2 ∷ l
+sizedTests n s l = (ltb n 1 || ltb mostVertices n) gives 1 ∷ lengthTest n s gives 2 ∷ l
 
 -- what every call that alters a sheet looks for first: the same
 abbrev pub altering : ℕ → Lent → Conditions → Conditions
