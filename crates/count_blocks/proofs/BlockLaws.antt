@@ -77,12 +77,12 @@ place-found i c r hi hc hr e = record {
 
 -- ---- the block that the recurrence gives, and its columns
 
-module _ (n : ℕ) (s : List ℕ) (i mask c : ℕ) where
-  pub block-counted : (t u : List ℕ) → SumsBy plus n s mask c 16 (replicate 16 0) t n → OwnBy plus i c t u → BlockCounted n s i mask c u
+module _ (n : ℕ) (s : List ℕ) (i c mask : ℕ) where
+  pub block-counted : (t u : List ℕ) → SumsBy plus n s c 16 mask (replicate 16 0) t n → OwnBy plus i c t u → BlockCounted n s i c mask u
   block-counted t u added own = record {
     long = own .long;
     counts = λ j h.
-        let summed = summed-zeros n s mask c 16 16 t (omega arith) added j h in
+        let summed = summed-zeros n s c 16 mask 16 t (omega arith) added j h in
         omega (arith, own .each j h (rw summed (mod-lt _ (pow-pos 64))));
   }
 
@@ -90,9 +90,9 @@ module _ (n : ℕ) (s : List ℕ) (i mask c : ℕ) where
   by-place : (P : ℕ → Type 0) → ((j : ℕ) → j < 16 → P (c + j)) → (j : ℕ) → c ≤ j → j < c + 16 → P j
   by-place P h j low high = let e : c + (j - c) ≡ j = omega arith in subst P e (h (j - c) (omega arith))
 
-  pub part-filled : (t u : List ℕ) (base : ℕ) → CountsFrom n i base → BlockCounted n s i mask c t → u ≡ over s (base + c) (λ (j : ℕ). getD t j 0) 16
-      → u ≡ withCounts n s i c 16 (countByMask n s i mask)
-  part-filled t u base at counted e = counts-written n s i c 16 (countByMask n s i mask) u (base + c) _ e (ap (λ (b : ℕ). b + c) (at .is)) (counted .counts)
+  pub part-filled : (t u : List ℕ) (base : ℕ) → CountsFrom n i base → BlockCounted n s i c mask t → u ≡ over s (base + c) (λ (j : ℕ). getD t j 0) 16
+      → u ≡ withCounts n s i c 16 (λ (j : ℕ). countByMask n s i j mask)
+  part-filled t u base at counted e = counts-written n s i c 16 _ u (base + c) _ e (ap (λ (b : ℕ). b + c) (at .is)) (counted .counts)
 
   -- nothing is left of a count exactly if it is what is taken off
   left-none : (a d S : ℕ) → a < 2 ^ 64 → minus (minus (plus 0 a) d) S ≡ 0 → a ≡ (d + S) % 2 ^ 64
@@ -110,7 +110,7 @@ module _ (n : ℕ) (s : List ℕ) (i mask c : ℕ) where
       sym (minus-congruent 0 m S (omega arith) (congruent-cancel (2 ^ 64) (0 + S) m d (omega (arith, q))))
 
   module _ (base : ℕ) (at : CountsFrom n i base) (t u w : List ℕ) (first : t ≡ wordsBy plus 16 s (base + c) (replicate 16 0)) (own : OwnBy minus i c t u)
-      (taken : SumsBy minus n s mask c 16 u w n) where
+      (taken : SumsBy minus n s c 16 mask u w n) where
     -- what is left at place j
     left : (j : ℕ) → j < 16 → getD w j 0 ≡ minus (minus (plus 0 (countAt n s i (c + j))) (delta i (c + j))) (sum n (λ b. bit mask b * countAt n s b (c + j)))
     left j h =
@@ -121,9 +121,9 @@ module _ (n : ℕ) (s : List ℕ) (i mask c : ℕ) where
         = own .each j h (rw x (mod-lt _ (pow-pos 64))) ∙ ap (λ (z : ℕ). minus z (delta i (c + j))) x in
         taken .each j h (rw y (minus-lt _ _)) ∙ ap (λ (z : ℕ). minus z (sum n (λ b. bit mask b * countAt n s b (c + j)))) y
 
-    pub part-same : (r : Bool) → ((k : ℕ) → getD s k 0 < 2 ^ 64) → Reflects r (SameWords 16 w 0 (replicate 16 0)) → Reflects r (PartHolds n s i mask c)
+    pub part-same : (r : Bool) → ((k : ℕ) → getD s k 0 < 2 ^ 64) → Reflects r (SameWords 16 w 0 (replicate 16 0)) → Reflects r (PartHolds n s i c mask)
     part-same r small same = record {
-      holds = λ e. by-place (λ j. countAt n s i j ≡ countByMask n s i mask j)
+      holds = λ e. by-place (λ j. countAt n s i j ≡ countByMask n s i j mask)
           (λ j h. left-none _ _ _ (small _) (sym (left j h) ∙ zero-at j ∙ same .holds e j h ∙ getD-replicate {A = ℕ} 16 j 0 0 h));
       shows = λ h. same .shows
           (λ j l. sym (zero-at j) ∙ left j l ∙ none-left _ _ _ (h (c + j) (omega arith) (omega arith)) ∙ sym (getD-replicate {A = ℕ} 16 j 0 0 l));
@@ -143,16 +143,16 @@ block-columns c x y h ex ey k low high =
     let one : bit x k ≡ 1 = rw ex (bit-low (c + 16) k high) in
     rw (bit-and x ((2 ^ 64 - 1) - y) k, one) (omega (arith, rest, bit-above-zero y c k small low))
 
-pub led-set : (leading i mask r : ℕ) → r ≡ withBit leading i → Led leading i mask r
-led-set leading i mask r e =
+pub led-set : (i leading mask r : ℕ) → r ≡ withBit leading i → Led i leading mask r
+led-set i leading mask r e =
     rw e
     record {
       other = λ k d. bit-set-other leading i k d;
       out = λ z. absurd (omega (arith, z, bit-set-same leading i));
     }
 
-pub led-same : (leading i mask : ℕ) → mask ≡ 0 → Led leading i mask leading
-led-same leading i mask z = record { other = λ k d. refl; out = λ e. (z, e) }
+pub led-same : (i leading mask : ℕ) → mask ≡ 0 → Led i leading mask leading
+led-same i leading mask z = record { other = λ k d. refl; out = λ e. (z, e) }
 
 -- the columns are among the leading, and the counts to them are 0 from those of the first k vertices that are not
 pub record Unled (n : ℕ) (t : List ℕ) (v : ℕ → ℕ) (c k leading : ℕ) : Type 0 where
@@ -162,27 +162,27 @@ pub record Unled (n : ℕ) (t : List ℕ) (v : ℕ → ℕ) (c k leading : ℕ) 
 pub unled-start : (n : ℕ) (t : List ℕ) (v : ℕ → ℕ) (c leading : ℕ) → HasColumns c leading → Unled n t v c 0 leading
 unled-start n t v c leading h = record { columns = h; none = λ m q. absurd (omega arith) }
 
-columns-led : (c leading i mask r : ℕ) → HasColumns c leading → Led leading i mask r → HasColumns c r
-columns-led c leading i mask r was led k low high =
+columns-led : (i c leading mask r : ℕ) → HasColumns c leading → Led i leading mask r → HasColumns c r
+columns-led i c leading mask r was led k low high =
     elim (ℕ-discrete k i) [
       | yes e ↦ elim (bit-cases r i) [ inl z ↦ absurd (omega (arith, led .out z .1, rw e at (was k low high))) | inr o ↦ rw e o ]
       | no d ↦ led .other k d ∙ was k low high
     ]
 
 -- a vertex that leads nowhere by the mask and is not j
-none-by : (n : ℕ) (s : List ℕ) (i mask j : ℕ) → mask ≡ 0 → (i ≡ j → ⊥) → countByMask n s i mask j ≡ 0
-none-by n s i mask j z d = rw z (omega (arith, delta-diff i j d, sum-no-bits n (λ b. countAt n s b j)))
+none-by : (n : ℕ) (s : List ℕ) (i j mask : ℕ) → mask ≡ 0 → (i ≡ j → ⊥) → countByMask n s i j mask ≡ 0
+none-by n s i j mask z d = rw z (omega (arith, delta-diff i j d, sum-no-bits n (λ b. countAt n s b j)))
 
-pub unled-more : (n : ℕ) (t u : List ℕ) (v : ℕ → ℕ) (c k leading mask r : ℕ) → Unled n t v c k leading → Led leading (v k) mask r
-    → ((j : ℕ) → c ≤ j → j < c + 16 → countAt n u (v k) j ≡ countByMask n t (v k) mask j)
+pub unled-more : (n : ℕ) (t u : List ℕ) (v : ℕ → ℕ) (c k leading mask r : ℕ) → Unled n t v c k leading → Led (v k) leading mask r
+    → ((j : ℕ) → c ≤ j → j < c + 16 → countAt n u (v k) j ≡ countByMask n t (v k) j mask)
     → ((i j : ℕ) → (i ≡ v k → ⊥) → c ≤ j → j < c + 16 → countAt n u i j ≡ countAt n t i j) → Unled n u v c (k + 1) r
 unled-more n t u v c k leading mask r was led here other = record {
-  columns = columns-led c leading (v k) mask r (was .columns) led;
+  columns = columns-led (v k) c leading mask r (was .columns) led;
   none = λ m h z j low high.
       elim (ℕ-discrete (v m) (v k)) [
         | yes e ↦
             let o = led .out (rw e at z) in
-            rw e (here j low high ∙ none-by n t (v k) mask j (o .0) (λ q. omega (arith, o .1, rw (← q) at (was .columns j low high))))
+            rw e (here j low high ∙ none-by n t (v k) j mask (o .0) (λ q. omega (arith, o .1, rw (← q) at (was .columns j low high))))
         | no d ↦ elim (ℕ-discrete m k) [
           | yes e ↦ absurd (d (ap v e))
           | no q ↦ other (v m) j d low high ∙ was .none m (omega (arith, q)) (sym (led .other (v m) d) ∙ z) j low high
@@ -195,7 +195,7 @@ leading-below n row leading h = lt-of-le-of-lt (and-le-l row leading) h
 
 -- a successor that is not among the leading may be left out of the sum
 pub led-sum : (n : ℕ) (t l : List ℕ) (c k leading : ℕ) → Ordered n t l → k < n → Unled n t (vertexAt l) c k leading
-    → (j : ℕ) → c ≤ j → j < c + 16 → countByMask n t (vertexAt l k) (bitAnd (rowAt t (vertexAt l k)) leading) j ≡ successorsSum n t (vertexAt l k) j
+    → (j : ℕ) → c ≤ j → j < c + 16 → countByMask n t (vertexAt l k) j (bitAnd (rowAt t (vertexAt l k)) leading) ≡ successorsSum n t (vertexAt l k) j
 unfolding successorsSum
 led-sum n t l c k leading h hk un j low high = ap (λ (x : ℕ). (delta i j + x) % 2 ^ 64) (sum-cong n _ _ term)
   where
@@ -219,8 +219,8 @@ led-sum n t l c k leading h hk un j low high = ap (λ (x : ℕ). (delta i j + x)
 
 module _ (n : ℕ) (s l : List ℕ) (h : Ordered n s l) (shape : Shape n s) (c : ℕ) (within : c + 16 ≤ n) where
   pub filling-more : (t u : List ℕ) (k leading mask r : ℕ) → k < n → Filled n s (vertexAt l) c 16 k t → Unled n t (vertexAt l) c k leading
-      → mask ≡ bitAnd (rowAt t (vertexAt l k)) leading → u ≡ withCounts n t (vertexAt l k) c 16 (countByMask n t (vertexAt l k) mask) → Led leading (vertexAt l k) mask r
-      → Filled n s (vertexAt l) c 16 (k + 1) u × Unled n u (vertexAt l) c (k + 1) r
+      → mask ≡ bitAnd (rowAt t (vertexAt l k)) leading → u ≡ withCounts n t (vertexAt l k) c 16 (λ (j : ℕ). countByMask n t (vertexAt l k) j mask)
+      → Led (vertexAt l k) leading mask r → Filled n s (vertexAt l) c 16 (k + 1) u × Unled n u (vertexAt l) c (k + 1) r
   filling-more t u k leading mask r hk f un em p led = (
     filled-more n s l h shape c 16 within t u k hk f (counts-as _ _ _ _ _ _ _ p _ whole),
     unled-more n t u (vertexAt l) c k leading mask r un led
@@ -231,9 +231,9 @@ module _ (n : ℕ) (s l : List ℕ) (h : Ordered n s l) (shape : Shape n s) (c :
       i : ℕ
       i = vertexAt l k
 
-      whole : (j : ℕ) → c ≤ j → j < c + 16 → countByMask n t i mask j ≡ successorsSum n t i j
+      whole : (j : ℕ) → c ≤ j → j < c + 16 → countByMask n t i j mask ≡ successorsSum n t i j
       whole j low high =
-          ap (λ (x : ℕ). countByMask n t i x j) em ∙ led-sum n t l c k leading (same-ordered n s t (f .long) (f .rows) l h) hk un j low high
+          ap (λ (x : ℕ). countByMask n t i j x) em ∙ led-sum n t l c k leading (same-ordered n s t (f .long) (f .rows) l h) hk un j low high
 
 -- ---- the counts of a block compared
 
@@ -243,15 +243,15 @@ VertexHolds n s l c m = (j : ℕ) → c ≤ j → j < c + 16 → countAt n s (ve
 
 module _ (n : ℕ) (s l : List ℕ) (h : Ordered n s l) (c : ℕ) where
   pub vertex-holds : (k leading mask : ℕ) (r : Bool) → k < n → Unled n s (vertexAt l) c k leading → mask ≡ bitAnd (rowAt s (vertexAt l k)) leading
-      → Reflects r (PartHolds n s (vertexAt l k) mask c) → Reflects r (VertexHolds n s l c k)
+      → Reflects r (PartHolds n s (vertexAt l k) c mask) → Reflects r (VertexHolds n s l c k)
   vertex-holds k leading mask r hk un em part =
       reflects-iff (λ f j low high. f j low high ∙ whole j low high) (λ f j low high. f j low high ∙ sym (whole j low high)) part
     where
-      whole : (j : ℕ) → c ≤ j → j < c + 16 → countByMask n s (vertexAt l k) mask j ≡ successorsSum n s (vertexAt l k) j
-      whole j low high = ap (λ (x : ℕ). countByMask n s (vertexAt l k) x j) em ∙ led-sum n s l c k leading h hk un j low high
+      whole : (j : ℕ) → c ≤ j → j < c + 16 → countByMask n s (vertexAt l k) j mask ≡ successorsSum n s (vertexAt l k) j
+      whole j low high = ap (λ (x : ℕ). countByMask n s (vertexAt l k) j x) em ∙ led-sum n s l c k leading h hk un j low high
 
-  pub compared-more : (k leading mask r : ℕ) → Unled n s (vertexAt l) c k leading → Led leading (vertexAt l k) mask r
-      → PartHolds n s (vertexAt l k) mask c → Unled n s (vertexAt l) c (k + 1) r
+  pub compared-more : (k leading mask r : ℕ) → Unled n s (vertexAt l) c k leading → Led (vertexAt l k) leading mask r
+      → PartHolds n s (vertexAt l k) c mask → Unled n s (vertexAt l) c (k + 1) r
   compared-more k leading mask r un led part = unled-more n s s (vertexAt l) c k leading mask r un led part (λ a j d low high. refl)
 
   pub block-of : (r : Bool) → Reflects r ((m : ℕ) → m < n → VertexHolds n s l c m) → Reflects r (BlockHolds n s c)

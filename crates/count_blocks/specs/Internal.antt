@@ -28,11 +28,11 @@ pub record PlaceOf (i c r : ℕ) : Type 0 where
   pub inside : r < columns → i ≡ c + r
   pub outside : columns ≤ r → (i < c) ⊎ (c + columns ≤ i)
 
--- s is a sheet of n vertices, u has the words of `UnitWords`, and the block from c on lies within the n columns
-pub record BlockReady (n : ℕ) (s u : List ℕ) (c : ℕ) : Type 0 where
+-- s is a sheet of n vertices, the block from c on lies within the n columns, and u has the words of `UnitWords`
+pub record BlockReady (n : ℕ) (s : List ℕ) (c : ℕ) (u : List ℕ) : Type 0 where
   pub shape : Shape n s
-  pub unit : UnitWords u
   pub within : c + columns ≤ n
+  pub unit : UnitWords u
 
 -- u is t with one added or taken off at the place of i, if it is among the columns from c on: op is `plus` or `minus`
 pub record OwnBy (op : ℕ → ℕ → ℕ) (i c : ℕ) (t u : List ℕ) : Type 0 where
@@ -41,16 +41,16 @@ pub record OwnBy (op : ℕ → ℕ → ℕ) (i c : ℕ) (t u : List ℕ) : Type 
 
 -- the count from i to j that the recurrence gives, if the edges from i lead to the vertices of the mask, modulo 2 ^ 64
 abbrev pub countByMask : ℕ → List ℕ → ℕ → ℕ → ℕ → ℕ
-countByMask n s i mask j = (delta i j + sum n (λ b. bit mask b * countAt n s b j)) % 2 ^ 64
+countByMask n s i j mask = (delta i j + sum n (λ b. bit mask b * countAt n s b j)) % 2 ^ 64
 
 -- t has these counts from i to the columns from c on
-pub record BlockCounted (n : ℕ) (s : List ℕ) (i mask c : ℕ) (t : List ℕ) : Type 0 where
+pub record BlockCounted (n : ℕ) (s : List ℕ) (i c mask : ℕ) (t : List ℕ) : Type 0 where
   pub long : length t ≡ columns
-  pub counts : (j : ℕ) → j < columns → getD t j 0 ≡ countByMask n s i mask (c + j)
+  pub counts : (j : ℕ) → j < columns → getD t j 0 ≡ countByMask n s i (c + j) mask
 
 -- the sheet has them
 abbrev pub PartHolds : ℕ → List ℕ → ℕ → ℕ → ℕ → Type 0
-PartHolds n s i mask c = (j : ℕ) → c ≤ j → j < c + columns → countAt n s i j ≡ countByMask n s i mask j
+PartHolds n s i c mask = (j : ℕ) → c ≤ j → j < c + columns → countAt n s i j ≡ countByMask n s i j mask
 
 -- the counts to the columns from c on satisfy the recurrence
 abbrev pub BlockHolds : ℕ → List ℕ → ℕ → Type 0
@@ -61,7 +61,7 @@ abbrev pub HasColumns : ℕ → ℕ → Type 0
 HasColumns c mask = (k : ℕ) → c ≤ k → k < c + columns → bit mask k ≡ 1
 
 -- r is leading, with i or without; without only if i was not in it and the mask is empty
-pub record Led (leading i mask r : ℕ) : Type 0 where
+pub record Led (i leading mask r : ℕ) : Type 0 where
   pub other : (k : ℕ) → (k ≡ i → ⊥) → bit r k ≡ bit leading k
   pub out : bit r i ≡ 0 → (mask ≡ 0) × (bit leading i ≡ 0)
 

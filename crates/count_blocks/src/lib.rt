@@ -40,8 +40,8 @@ fn place_of(i: usize, c: usize) -> usize
 }
 
 // The path from i to itself, added to the counts from i to the columns from c on.
-fn add_own(unit: &[u64; UNIT_WORDS], i: usize, c: usize, t: &mut [u64; COLUMNS])
-    requires { ⌜ (UnitWords (now unit)) × (i < mostVertices) × (c < mostVertices) × (length (now t) ≡ columns) ⌝ }
+fn add_own(i: usize, c: usize, unit: &[u64; UNIT_WORDS], t: &mut [u64; COLUMNS])
+    requires { ⌜ (i < mostVertices) × (c < mostVertices) × (UnitWords (now unit)) × (length (now t) ≡ columns) ⌝ }
     ensures { λ r. ⌜ OwnBy plus i c (now (t .entry)) (now (t .exit)) ⌝ }
 {
     let place = place_of(i, c);
@@ -54,17 +54,17 @@ fn add_own(unit: &[u64; UNIT_WORDS], i: usize, c: usize, t: &mut [u64; COLUMNS])
 fn count_block(
     n: usize,
     sheet: &[u64],
-    unit: &[u64; UNIT_WORDS],
     i: usize,
-    mask: u64,
     c: usize,
+    mask: u64,
+    unit: &[u64; UNIT_WORDS],
 ) -> [u64; COLUMNS]
-    requires { ⌜ (BlockReady n (now sheet) (now unit) c) × (i < n) × (mask < 2 ^ n) ⌝ }
-    ensures { λ r. ⌜ BlockCounted n (now (sheet .entry)) i mask c r ⌝ }
+    requires { ⌜ (BlockReady n (now sheet) c (now unit)) × (i < n) × (mask < 2 ^ n) ⌝ }
+    ensures { λ r. ⌜ BlockCounted n (now (sheet .entry)) i c mask r ⌝ }
 {
     let mut t = [0u64; COLUMNS];
-    sheet::words::add_counts(n, sheet, mask, c, COLUMNS, &mut t);
-    add_own(unit, i, c, &mut t);
+    sheet::words::add_counts(n, sheet, c, COLUMNS, mask, &mut t);
+    add_own(i, c, unit, &mut t);
     t
 }
 
@@ -77,9 +77,9 @@ fn block_mask(c: usize) -> u64
 }
 
 // The vertices found to lead to one of a block's columns, and i too if an edge leads from it to one of them, a vertex of the mask.
-fn lead(leading: u64, i: usize, mask: u64) -> u64
+fn lead(i: usize, leading: u64, mask: u64) -> u64
     requires { ⌜ i < mostVertices ⌝ }
-    ensures { λ r. ⌜ Led leading i mask r ⌝ }
+    ensures { λ r. ⌜ Led i leading mask r ⌝ }
 {
     if mask != 0 {
         return word::set_bit(leading, i);
@@ -99,11 +99,11 @@ fn block_at(n: usize, c: usize) -> usize
 }
 
 // The counts from i to the columns from c on, written.
-fn fill_part(n: usize, sheet: &mut [u64], unit: &[u64; UNIT_WORDS], i: usize, mask: u64, c: usize)
-    requires { ⌜ (BlockReady n (now sheet) (now unit) c) × (i < n) × (mask < 2 ^ n) ⌝ }
-    ensures { λ r. ⌜ now (sheet .exit) ≡ withCounts n (now (sheet .entry)) i c columns (countByMask n (now (sheet .entry)) i mask) ⌝ }
+fn fill_part(n: usize, sheet: &mut [u64], i: usize, c: usize, mask: u64, unit: &[u64; UNIT_WORDS])
+    requires { ⌜ (BlockReady n (now sheet) c (now unit)) × (i < n) × (mask < 2 ^ n) ⌝ }
+    ensures { λ r. ⌜ now (sheet .exit) ≡ withCounts n (now (sheet .entry)) i c columns (λ (j : ℕ). countByMask n (now (sheet .entry)) i j mask) ⌝ }
 {
-    let t = count_block(n, sheet, unit, i, mask, c);
+    let t = count_block(n, sheet, i, c, mask, unit);
     sheet::words::copy_words(COLUMNS, &t, sheet, sheet::layout::counts_from(n, i) + c);
 }
 
@@ -111,11 +111,11 @@ fn fill_part(n: usize, sheet: &mut [u64], unit: &[u64; UNIT_WORDS], i: usize, ma
 fn fill_block(
     n: usize,
     sheet: &mut [u64],
+    c: usize,
     order: &[usize; Sheet::VERTICES],
     unit: &[u64; UNIT_WORDS],
-    c: usize,
 )
-    requires { ⌜ (BlockReady n (now sheet) (now unit) c) × (RowsBelow n (now sheet)) × (Ordered n (now sheet) (now order)) ⌝ }
+    requires { ⌜ (BlockReady n (now sheet) c (now unit)) × (RowsBelow n (now sheet)) × (Ordered n (now sheet) (now order)) ⌝ }
     ensures { λ r. ⌜ ColumnsFilled n (now (sheet .entry)) c columns (now (sheet .exit)) ⌝ }
 {
     let mut leading = block_mask(c);
@@ -123,8 +123,8 @@ fn fill_block(
     while k < n {
         let i = order[k];
         let mask = sheet[i] & leading;
-        leading = lead(leading, i, mask);
-        fill_part(n, sheet, unit, i, mask, c);
+        leading = lead(i, leading, mask);
+        fill_part(n, sheet, i, c, mask, unit);
         k += 1;
     }
 }
@@ -137,7 +137,7 @@ pub fn fill_blocks(n: usize, sheet: &mut [u64], order: &[usize; Sheet::VERTICES]
     let unit = unit_words();
     let mut c = 0;
     while c < n {
-        fill_block(n, sheet, order, &unit, block_at(n, c));
+        fill_block(n, sheet, block_at(n, c), order, &unit);
         c += COLUMNS;
     }
 }
@@ -155,8 +155,8 @@ fn take_words(n: usize, words: &[u64], base: usize, t: &mut [u64])
 }
 
 // The path from i to itself, taken off the counts from i to the columns from c on.
-fn take_own(unit: &[u64; UNIT_WORDS], i: usize, c: usize, t: &mut [u64; COLUMNS])
-    requires { ⌜ (UnitWords (now unit)) × (i < mostVertices) × (c < mostVertices) × (length (now t) ≡ columns) ⌝ }
+fn take_own(i: usize, c: usize, unit: &[u64; UNIT_WORDS], t: &mut [u64; COLUMNS])
+    requires { ⌜ (i < mostVertices) × (c < mostVertices) × (UnitWords (now unit)) × (length (now t) ≡ columns) ⌝ }
     ensures { λ r. ⌜ OwnBy minus i c (now (t .entry)) (now (t .exit)) ⌝ }
 {
     let place = place_of(i, c);
@@ -166,9 +166,9 @@ fn take_own(unit: &[u64; UNIT_WORDS], i: usize, c: usize, t: &mut [u64; COLUMNS]
 }
 
 // The counts from the vertices of the mask to the columns from c on, taken off.
-fn take_counts(n: usize, sheet: &[u64], mask: u64, c: usize, t: &mut [u64; COLUMNS])
-    requires { ⌜ (Shape n (now sheet)) × (mask < 2 ^ n) × (c + columns ≤ n) × (length (now t) ≡ columns) ⌝ }
-    ensures { λ r. ⌜ SumsBy minus n (now (sheet .entry)) mask c columns (now (t .entry)) (now (t .exit)) n ⌝ }
+fn take_counts(n: usize, sheet: &[u64], c: usize, mask: u64, t: &mut [u64; COLUMNS])
+    requires { ⌜ (Shape n (now sheet)) × (c + columns ≤ n) × (mask < 2 ^ n) × (length (now t) ≡ columns) ⌝ }
+    ensures { λ r. ⌜ SumsBy minus n (now (sheet .entry)) c columns mask (now (t .entry)) (now (t .exit)) n ⌝ }
 {
     let mut rest = mask;
     while rest != 0 {
@@ -183,19 +183,19 @@ fn take_counts(n: usize, sheet: &[u64], mask: u64, c: usize, t: &mut [u64; COLUM
 fn part_holds(
     n: usize,
     sheet: &[u64],
-    unit: &[u64; UNIT_WORDS],
     i: usize,
-    mask: u64,
     c: usize,
+    mask: u64,
+    unit: &[u64; UNIT_WORDS],
 ) -> bool
-    requires { ⌜ (BlockReady n (now sheet) (now unit) c) × (i < n) × (mask < 2 ^ n) ⌝ }
-    ensures { λ r. ⌜ Reflects r (PartHolds n (now (sheet .entry)) i mask c) ⌝ }
+    requires { ⌜ (BlockReady n (now sheet) c (now unit)) × (i < n) × (mask < 2 ^ n) ⌝ }
+    ensures { λ r. ⌜ Reflects r (PartHolds n (now (sheet .entry)) i c mask) ⌝ }
 {
     let zeros = [0u64; COLUMNS];
     let mut t = [0u64; COLUMNS];
     sheet::words::add_words(COLUMNS, sheet, sheet::layout::counts_from(n, i) + c, &mut t);
-    take_own(unit, i, c, &mut t);
-    take_counts(n, sheet, mask, c, &mut t);
+    take_own(i, c, unit, &mut t);
+    take_counts(n, sheet, c, mask, &mut t);
     vertex_counts::same_words(COLUMNS, &t, 0, &zeros)
 }
 
@@ -203,11 +203,11 @@ fn part_holds(
 fn block_holds(
     n: usize,
     sheet: &[u64],
+    c: usize,
     order: &[usize; Sheet::VERTICES],
     unit: &[u64; UNIT_WORDS],
-    c: usize,
 ) -> bool
-    requires { ⌜ (BlockReady n (now sheet) (now unit) c) × (RowsBelow n (now sheet)) × (Ordered n (now sheet) (now order)) ⌝ }
+    requires { ⌜ (BlockReady n (now sheet) c (now unit)) × (RowsBelow n (now sheet)) × (Ordered n (now sheet) (now order)) ⌝ }
     ensures { λ r. ⌜ Reflects r (BlockHolds n (now (sheet .entry)) c) ⌝ }
 {
     let mut leading = block_mask(c);
@@ -215,8 +215,8 @@ fn block_holds(
     while k < n {
         let i = order[k];
         let mask = sheet[i] & leading;
-        leading = lead(leading, i, mask);
-        if !part_holds(n, sheet, unit, i, mask, c) {
+        leading = lead(i, leading, mask);
+        if !part_holds(n, sheet, i, c, mask, unit) {
             return false;
         }
         k += 1;
@@ -232,7 +232,7 @@ pub fn blocks_hold(n: usize, sheet: &[u64], order: &[usize; Sheet::VERTICES]) ->
     let unit = unit_words();
     let mut c = 0;
     while c < n {
-        if !block_holds(n, sheet, order, &unit, block_at(n, c)) {
+        if !block_holds(n, sheet, block_at(n, c), order, &unit) {
             return false;
         }
         c += COLUMNS;

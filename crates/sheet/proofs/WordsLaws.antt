@@ -83,18 +83,18 @@ module _ (n : ℕ) (s : List ℕ) (i c w : ℕ) (f : ℕ → ℕ) where
 -- ---- the counts from the vertices of a mask added up or taken off, by the lowest bit of what is left of it
 
 abbrev pub Summing : (ℕ → ℕ → ℕ) → ℕ → List ℕ → ℕ → ℕ → ℕ → List ℕ → ℕ → List ℕ → Type 0
-Summing op n s mask c w a rest t = Visiting n mask (SumsBy op n s mask c w a t) rest
+Summing op n s c w mask a rest t = Visiting n mask (SumsBy op n s c w mask a t) rest
 
-module _ {op : ℕ → ℕ → ℕ} (wraps : Wraps op) (n : ℕ) (s : List ℕ) (mask c w : ℕ) (a : List ℕ) where
-  pub summing-start : mask < 2 ^ n → Summing op n s mask c w a mask a
+module _ {op : ℕ → ℕ → ℕ} (wraps : Wraps op) (n : ℕ) (s : List ℕ) (c w mask : ℕ) (a : List ℕ) where
+  pub summing-start : mask < 2 ^ n → Summing op n s c w mask a mask a
   summing-start h = visiting-start n mask _ h record { long = refl; each = λ j l q. terms-start wraps mask (λ b. countAt n s b (c + j)) (getD a j 0) q }
 
-  passes : (t : List ℕ) → Passes n mask (SumsBy op n s mask c w a t)
+  passes : (t : List ℕ) → Passes n mask (SumsBy op n s c w mask a t)
   passes t k h z was = record { long = was .long; each = λ j l q. terms-pass wraps mask (λ b. countAt n s b (c + j)) (getD a j 0) n _ k h z (was .each j l q) }
 
   -- the words of the row of b are added or taken off
-  pub summing-more : (t u : List ℕ) (rest b base r : ℕ) → w ≤ length a → Summing op n s mask c w a rest t → Lowest rest b → CountsFrom n b base
-      → u ≡ wordsBy op w s (base + c) t → LowestCleared rest r → Summing op n s mask c w a r u
+  pub summing-more : (t u : List ℕ) (rest b base r : ℕ) → w ≤ length a → Summing op n s c w mask a rest t → Lowest rest b → CountsFrom n b base
+      → u ≡ wordsBy op w s (base + c) t → LowestCleared rest r → Summing op n s c w mask a r u
   summing-more t u rest b base r h was l at row er =
       visiting-more n mask _ (passes t) rest was b l _ r er
       (λ q o p. record {
@@ -104,19 +104,19 @@ module _ {op : ℕ → ℕ → ℕ} (wraps : Wraps op) (n : ℕ) (s : List ℕ) 
             (words-at op w s (base + c) t u row j hj (omega (arith, p .long)) ∙ ap (op (getD t j 0)) (block-count n s b base c at j));
       })
 
-  pub summing-done : (t : List ℕ) (rest : ℕ) → Summing op n s mask c w a rest t → rest ≡ 0 → SumsBy op n s mask c w a t n
+  pub summing-done : (t : List ℕ) (rest : ℕ) → Summing op n s c w mask a rest t → rest ≡ 0 → SumsBy op n s c w mask a t n
   summing-done t rest was e = visiting-done n mask _ (passes t) rest was e
 
 -- from words that are 0
-pub summed-zeros : (n : ℕ) (s : List ℕ) (mask c w m : ℕ) (t : List ℕ) → w ≤ m → SumsBy plus n s mask c w (replicate m 0) t n
+pub summed-zeros : (n : ℕ) (s : List ℕ) (c w mask m : ℕ) (t : List ℕ) → w ≤ m → SumsBy plus n s c w mask (replicate m 0) t n
     → (j : ℕ) → j < w → getD t j 0 ≡ sum n (λ b. bit mask b * countAt n s b (c + j)) % 2 ^ 64
-summed-zeros n s mask c w m t h was j l =
+summed-zeros n s c w mask m t h was j l =
     let z = getD-replicate {A = ℕ} m j 0 0 (omega arith) in
     was .each j l (omega arith) ∙ rw (z, zero-add)
 
-pub counts-summed : (n : ℕ) (s : List ℕ) (mask : ℕ) (t : List ℕ) → n ≤ 64 → SumsBy plus n s mask 0 n (replicate 64 0) t n → CountsSummed n s mask t
+pub counts-summed : (n : ℕ) (s : List ℕ) (mask : ℕ) (t : List ℕ) → n ≤ 64 → SumsBy plus n s 0 n mask (replicate 64 0) t n → CountsSummed n s mask t
 counts-summed n s mask t h was = record {
   long = was .long ∙ length-replicate {A = ℕ} 64 0;
   sums = λ j q.
-      summed-zeros n s mask 0 n 64 t h was j q ∙ ap (λ (k : ℕ). sum n (λ b. bit mask b * countAt n s b k) % 2 ^ 64) (zero-add j);
+      summed-zeros n s 0 n mask 64 t h was j q ∙ ap (λ (k : ℕ). sum n (λ b. bit mask b * countAt n s b k) % 2 ^ 64) (zero-add j);
 }

@@ -35,7 +35,7 @@ wordsBy op n s base t = puts t (λ j. j) (λ j. op (getD t j 0) (getD s (base + 
 
 -- u has as many words as t, and each below w is that of t with the counts to its column, of the w from c on, from the vertices of the
 -- mask below k, added or taken off: op is `plus` or `minus`
-pub record SumsBy (op : ℕ → ℕ → ℕ) (n : ℕ) (s : List ℕ) (mask c w : ℕ) (t u : List ℕ) (k : ℕ) : Type 0 where
+pub record SumsBy (op : ℕ → ℕ → ℕ) (n : ℕ) (s : List ℕ) (c w mask : ℕ) (t u : List ℕ) (k : ℕ) : Type 0 where
   pub long : length u ≡ length t
   pub each : (j : ℕ) → j < w → getD t j 0 < 2 ^ 64 → getD u j 0 ≡ op (getD t j 0) (sum k (λ b. bit mask b * countAt n s b (c + j)))
 

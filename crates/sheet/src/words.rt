@@ -34,9 +34,9 @@ pub fn add_words(n: usize, words: &[u64], base: usize, t: &mut [u64])
 }
 
 // Internal: the counts from the vertices of the mask to the w columns from c on, added to the first w words of t, modulo 2^64.
-pub fn add_counts(n: usize, sheet: &[u64], mask: u64, c: usize, w: usize, t: &mut [u64])
-    requires { ⌜ (Shape n (now sheet)) × (mask < 2 ^ n) × (c + w ≤ n) × (w ≤ length (now t)) ⌝ }
-    ensures { λ r. ⌜ SumsBy plus n (now (sheet .entry)) mask c w (now (t .entry)) (now (t .exit)) n ⌝ }
+pub fn add_counts(n: usize, sheet: &[u64], c: usize, w: usize, mask: u64, t: &mut [u64])
+    requires { ⌜ (Shape n (now sheet)) × (c + w ≤ n) × (mask < 2 ^ n) × (w ≤ length (now t)) ⌝ }
+    ensures { λ r. ⌜ SumsBy plus n (now (sheet .entry)) c w mask (now (t .entry)) (now (t .exit)) n ⌝ }
 {
     let mut rest = mask;
     while rest != 0 {
@@ -52,7 +52,7 @@ pub fn sum_counts(n: usize, sheet: &[u64], mask: u64) -> [u64; Sheet::VERTICES]
     ensures { λ r. ⌜ CountsSummed n (now (sheet .entry)) mask r ⌝ }
 {
     let mut t = [0u64; Sheet::VERTICES];
-    add_counts(n, sheet, mask, 0, n, &mut t);
+    add_counts(n, sheet, 0, n, mask, &mut t);
     t
 }
 

@@ -12,7 +12,7 @@ returns : tie.Need-returns
 returns c =
     let found = c .before .before .before .before in
     let a = found .before in
-    own-in plus (a .args .i) (a .args .c) _ (a .pre .3) _ _ _ (a .pre .0) (found .place-of .ensures .inside (omega arith)) (omega arith) (c .add-words .ensures)
+    own-in plus (a .args .i) (a .args .c) _ (a .pre .3) _ _ _ (a .pre .2) (found .place-of .ensures .inside (omega arith)) (omega arith) (c .add-words .ensures)
 
 returns-2 : tie.Need-returns-2
 returns-2 c = own-out plus _ _ _ (c .before .before .pre .3) plus-wraps (c .before .place-of .ensures .outside (omega arith))

@@ -13,11 +13,11 @@ use Rattle.count_blocks.proofs.block_holds.Statement.{statement}
 use Rattle.count_blocks.proofs.block_holds.Tie as tie
 
 abbrev Inv-loop : tie.InvT-loop
-Inv-loop n sheet order unit c leading₀ k₀ leading k =
+Inv-loop n sheet c order unit leading₀ k₀ leading k =
     (k ≤ n) × (Unled n sheet (vertexAt order) c k leading) × ((m : ℕ) → m < k → VertexHolds n sheet order c m)
 
 abbrev μ-loop : tie.MeasureT-loop
-μ-loop n sheet order unit c leading₀ k₀ leading k = n - k
+μ-loop n sheet c order unit leading₀ k₀ leading k = n - k
 
 block-mask-requires : tie.Need-block-mask-requires Inv-loop μ-loop
 block-mask-requires c κs = omega (arith, c .before .pre .0 .within, c .before .pre .0 .shape .high)

@@ -20,15 +20,15 @@ loop-holds c = (omega arith, λ i j hi hj q. absurd (omega arith))
 block-holds-requires : tie.Need-block-holds-requires Inv-loop μ-loop
 block-holds-requires c κs =
     let a = c .before .before .before .before .before .before .pre in
-    (record { shape = a .0; unit = c .before .before .before .before .unit-words .ensures; within = c .block-at .ensures .within }, a .1, a .2)
+    (record { shape = a .0; within = c .before .block-at .ensures .within; unit = c .before .before .before .before .unit-words .ensures }, a .1, a .2)
 
 returns : tie.Need-returns Inv-loop μ-loop
-returns c = held-fails _ _ _ _ (c .before .before .block-at .ensures) _ (c .before .block-holds .ensures) (c .if1 .taken)
+returns c = held-fails _ _ _ _ (c .before .before .before .block-at .ensures) _ (c .before .block-holds .ensures) (c .if1 .taken)
 
 loop-again : tie.Need-loop-again Inv-loop μ-loop
 loop-again c =
     let held = c .before .block-holds .ensures .holds (not-false _ (c .if1 .left)) in
-    (omega arith, held-more _ _ _ _ (c .before .before .block-at .ensures) (c .before .before .before .before .before .loop .inv .1) held)
+    (omega arith, held-more _ _ _ _ (c .before .before .before .block-at .ensures) (c .before .before .before .before .before .loop .inv .1) held)
 
 returns-2 : tie.Need-returns-2 Inv-loop μ-loop
 returns-2 c = held-all _ _ _ (c .before .loop .inv .1) (omega arith)

@@ -11,11 +11,11 @@ use Rattle.count_blocks.proofs.fill_block.Statement.{statement}
 use Rattle.count_blocks.proofs.fill_block.Tie as tie
 
 abbrev Inv-loop : tie.InvT-loop
-Inv-loop n sheet₀ order unit c leading₀ k₀ sheet leading k =
+Inv-loop n sheet₀ c order unit leading₀ k₀ sheet leading k =
     (k ≤ n) × (Filled n sheet₀ (vertexAt order) c 16 k sheet) × (Unled n sheet (vertexAt order) c k leading)
 
 abbrev μ-loop : tie.MeasureT-loop
-μ-loop n sheet₀ order unit c leading₀ k₀ sheet leading k = n - k
+μ-loop n sheet₀ c order unit leading₀ k₀ sheet leading k = n - k
 
 block-mask-requires : tie.Need-block-mask-requires Inv-loop μ-loop
 block-mask-requires c κs = omega (arith, c .before .pre .0 .within, c .before .pre .0 .shape .high)
@@ -53,8 +53,8 @@ fill-part-requires c κs =
     let row = same-below (a .args .n) (a .args .sheet .now) (l .sheet) (f .long) (f .rows) (a .pre .1) _ v in (
       record {
         shape = same-shape (a .args .n) (a .args .sheet .now) (l .sheet) (f .long) (f .rows) (a .pre .0 .shape);
-        unit = a .pre .0 .unit;
         within = a .pre .0 .within;
+        unit = a .pre .0 .unit;
       },
       v,
       leading-below _ _ _ row,

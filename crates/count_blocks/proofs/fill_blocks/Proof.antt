@@ -23,8 +23,8 @@ fill-block-requires c κs =
     let f = l .inv .1 in (
       record {
         shape = same-shape (a .args .n) (a .args .sheet .now) (l .sheet) (f .long) (f .rows) (a .pre .0);
+        within = c .before .block-at .ensures .within;
         unit = c .before .before .before .before .before .unit-words .ensures;
-        within = c .block-at .ensures .within;
       },
       same-below (a .args .n) (a .args .sheet .now) (l .sheet) (f .long) (f .rows) (a .pre .1),
       same-ordered (a .args .n) (a .args .sheet .now) (l .sheet) (f .long) (f .rows) _ (a .pre .2),
@@ -32,7 +32,7 @@ fill-block-requires c κs =
 
 loop-again : tie.Need-loop-again Inv-loop μ-loop
 loop-again c =
-    let at = c .before .before .before .block-at .ensures in
+    let at = c .before .before .before .before .block-at .ensures in
     (omega arith, columns-more _ _ _ _ _ _ 16 (c .before .before .before .before .before .before .before .loop .inv .1) (c .before .before .fill-block .ensures) (at .low) (at .holds))
 
 same-length : tie.Need-same-length Inv-loop μ-loop

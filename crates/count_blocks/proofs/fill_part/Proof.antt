@@ -5,7 +5,7 @@ use Rattle.count_blocks.proofs.fill_part.Statement.{statement}
 use Rattle.count_blocks.proofs.fill_part.Tie as tie
 
 returns : tie.Need-returns
-returns c = search part-filled
+returns c = search (part-filled, c .before .before .before .before .before .before .count-block .ensures)
 
 pub fill-part-spec : {M : Type 1} → statement M
 fill-part-spec =

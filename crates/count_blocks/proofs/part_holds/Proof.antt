@@ -9,7 +9,7 @@ use Rattle.count_blocks.proofs.part_holds.Tie as tie
 returns : tie.Need-returns
 returns c =
     let a = c .before .before .before .before .before .before .before .before .before .before .before .before .args in
-    part-same (a .n) (a .sheet .now) (a .i) (a .mask) (a .c) _ (c .before .before .before .before .before .before .before .before .before .before .counts-from .ensures) _ _ _ (c .before .before .before .before .before .before .before .before .add-words .ensures) (c .before .before .before .before .before .take-own .ensures)
+    part-same (a .n) (a .sheet .now) (a .i) (a .c) (a .mask) _ (c .before .before .before .before .before .before .before .before .before .before .counts-from .ensures) _ _ _ (c .before .before .before .before .before .before .before .before .add-words .ensures) (c .before .before .before .before .before .take-own .ensures)
     (c .before .before .before .take-counts .ensures) _ (λ k. omega (arith, c .before .before .before .before .before .before .before .before .before .before .before .shared-slice-known .given k)) (c .same-words .ensures)
 
 pub part-holds-spec : {M : Type 1} → statement M

@@ -10,13 +10,13 @@ use Rattle.count_blocks.proofs.take_counts.Statement.{statement}
 use Rattle.count_blocks.proofs.take_counts.Tie as tie
 
 abbrev Inv-loop : tie.InvT-loop
-Inv-loop n sheet mask c t₀ rest₀ t rest = Summing minus n sheet mask c 16 t₀ rest t
+Inv-loop n sheet c mask t₀ rest₀ t rest = Summing minus n sheet c 16 mask t₀ rest t
 
 abbrev μ-loop : tie.MeasureT-loop
-μ-loop n sheet mask c t₀ rest₀ t rest = rest
+μ-loop n sheet c mask t₀ rest₀ t rest = rest
 
 loop-holds : tie.Need-loop-holds Inv-loop μ-loop
-loop-holds c = summing-start minus-wraps _ _ _ _ 16 _ (c .before .pre .1)
+loop-holds c = summing-start minus-wraps _ _ _ 16 _ _ (c .before .pre .2)
 
 lowest-bit-requires : tie.Need-lowest-bit-requires Inv-loop μ-loop
 lowest-bit-requires c κs = omega (arith, eqb-false)
@@ -36,11 +36,11 @@ loop-again : tie.Need-loop-again Inv-loop μ-loop
 loop-again c =
     let l = c .before .before .before .before in
     let at = l .before .before in
-    summing-more minus-wraps _ _ _ _ 16 _ (at .loop .t) _ _ _ _ _ (omega arith) (at .loop .inv) (l .lowest-bit .ensures)
+    summing-more minus-wraps _ _ _ 16 _ _ (at .loop .t) _ _ _ _ _ (omega arith) (at .loop .inv) (l .lowest-bit .ensures)
     (c .before .before .before .counts-from .ensures) (c .before .take-words .ensures) (c .clear-lowest .ensures)
 
 returns : tie.Need-returns Inv-loop μ-loop
-returns c = summing-done minus-wraps _ _ _ _ 16 _ _ _ (c .before .loop .inv) (omega (arith, eqb-true))
+returns c = summing-done minus-wraps _ _ _ 16 _ _ _ _ (c .before .loop .inv) (omega (arith, eqb-true))
 
 pub take-counts-spec : {M : Type 1} → statement M
 take-counts-spec =

@@ -12,7 +12,7 @@ returns : tie.Need-returns
 returns c =
     let found = c .before .before .before .before in
     let a = found .before in
-    own-in minus (a .args .i) (a .args .c) _ (a .pre .3) _ _ _ (a .pre .0) (found .place-of .ensures .inside (omega arith)) (omega arith) (c .take-words .ensures)
+    own-in minus (a .args .i) (a .args .c) _ (a .pre .3) _ _ _ (a .pre .2) (found .place-of .ensures .inside (omega arith)) (omega arith) (c .take-words .ensures)
 
 returns-2 : tie.Need-returns-2
 returns-2 c = own-out minus _ _ _ (c .before .before .pre .3) minus-wraps (c .before .place-of .ensures .outside (omega arith))

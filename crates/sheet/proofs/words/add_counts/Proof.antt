@@ -10,13 +10,13 @@ use Rattle.sheet.proofs.words.add_counts.Statement.{statement}
 use Rattle.sheet.proofs.words.add_counts.Tie as tie
 
 abbrev Inv-loop : tie.InvT-loop
-Inv-loop n sheet mask c w t₀ rest₀ t rest = Summing plus n sheet mask c w t₀ rest t
+Inv-loop n sheet c w mask t₀ rest₀ t rest = Summing plus n sheet c w mask t₀ rest t
 
 abbrev μ-loop : tie.MeasureT-loop
-μ-loop n sheet mask c w t₀ rest₀ t rest = rest
+μ-loop n sheet c w mask t₀ rest₀ t rest = rest
 
 loop-holds : tie.Need-loop-holds Inv-loop μ-loop
-loop-holds c = summing-start plus-wraps _ _ _ _ _ _ (c .before .before .pre .1)
+loop-holds c = summing-start plus-wraps _ _ _ _ _ _ (c .before .before .pre .2)
 
 lowest-bit-requires : tie.Need-lowest-bit-requires Inv-loop μ-loop
 lowest-bit-requires c κs = omega (arith, eqb-false)
