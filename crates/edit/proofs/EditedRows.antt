@@ -21,7 +21,7 @@ use Rattle.sheet_theory.proofs.LayoutLaws.{counts-within, length-redone, row-re
 use Rattle.edit_theory.specs.Edit.{namedAt, marked}
 use Rattle.edit_theory.specs.Outcome.{editedRow}
 use Rattle.edit.specs.Internal.{Marked, rowsEdited}
-use Rattle.edit_theory.proofs.EditedRow.{has-pow, named-none, named-other, named-both, bit-edited, edited-only, edited-same}
+use Rattle.edit_theory.proofs.EditedRow.{has-pow, named-none, named-other, named-both, bit-edited, edited-only, edited-lt}
 
 -- ---- a row with the bits of a mask set, or cleared
 
@@ -116,5 +116,6 @@ rows-edited inserts n s t v a b r long hv et hr m =
           | no d ↦
               getD-set-other t v i r 0 d
               ∙ was i hi
-              ∙ edited-same inserts s s v a 0 a b i (λ j. ap (λ (x : Bool). marked inserts x (edgeAt s i j)) (sym (named-other v a b i j d)))
+              ∙ edited-only inserts s v a b i _ (edited-lt inserts s v a 0 i)
+              (λ j l. bit-edited inserts s v a 0 i j l ∙ ap (λ (x : Bool). marked inserts x (edgeAt s i j)) (sym (named-other v a b i j d)))
         ]

@@ -73,10 +73,3 @@ module _ (inserts : Bool) (s : List ℕ) (v a b i : ℕ) where
 -- without an edge named a row is left as it is
 pub edited-none : (inserts : Bool) (s : List ℕ) (v i : ℕ) → rowAt s i < 2 ^ 64 → rowAt s i ≡ editedRow inserts s v 0 0 i
 edited-none inserts s v i h = edited-only inserts s v 0 0 i (rowAt s i) h (λ j l. rw (named-none v 0 i j, has-zero i))
-
--- two rows that the edits leave are the same if their bits are
-pub edited-same : (inserts : Bool) (s t : List ℕ) (v a b c d i : ℕ)
-    → ((j : ℕ) → marked inserts (namedAt v a b i j) (edgeAt s i j) ≡ marked inserts (namedAt v c d i j) (edgeAt t i j))
-    → editedRow inserts s v a b i ≡ editedRow inserts t v c d i
-edited-same inserts s t v a b c d i h =
-    edited-only inserts t v c d i _ (edited-lt inserts s v a b i) (λ j l. bit-edited inserts s v a b i j l ∙ h j)

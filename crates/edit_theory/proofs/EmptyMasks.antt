@@ -1,6 +1,6 @@
 -- EMPTY MASKS: an edit at a vertex that names no edge is refused by 1, 2 and 3 alone, and leaves every word as it is, on valid sheets and on
 -- others. Assumes nothing.
-use mathlib.Core.Path.{_≡_, refl, sym, ap, _∙_}
+use mathlib.Core.Path.{_≡_, refl, sym, ap}
 use mathlib.Core.Logic.{_⊎_, inl, inr}
 use mathlib.Core.Bool.{Bool, true, false}
 use mathlib.Core.List.{[], _∷_}
@@ -95,4 +95,4 @@ module _ (n : ℕ) (s : Lent) (v : ℕ) where
 
       -- the value of an accepted one is the set bits of the rows as they are
       pub empty-masks-value : editAnswer (edgesEdit inserts n v 0 0) s .number ≡ 0 → editAnswer (edgesEdit inserts n v 0 0) s .value ≡ setBits n (s .words)
-      empty-masks-value z = ap (λ k. decided k (setBits n (edited inserts n (s .words) v 0 0)) 0) z ∙ ap (setBits n) idle-words
+      empty-masks-value z = rw z (ap (setBits n) idle-words)

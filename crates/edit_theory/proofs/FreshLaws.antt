@@ -20,7 +20,6 @@ use Rattle.graph.proofs.Bound.{paths-below}
 use Rattle.sheet_theory.specs.Layout.{size, rowAt, countAt, edgeAt, setBits, redone}
 use Rattle.sheet_theory.specs.Lent.{Lent, lent}
 use Rattle.sheet_theory.specs.Valid.{Valid}
-use Rattle.sheet_theory.specs.Internal.{RowsBelow}
 use Rattle.sheet_theory.proofs.StrayLaws.{rows-iff}
 use Rattle.sheet_theory.proofs.LayoutLaws.{length-redone, row-redone, count-redone, rest-none, sheet-ext}
 use Rattle.sheet_theory.proofs.ValidLaws.{lent-ext}
@@ -44,9 +43,6 @@ module _ {m : Model} {s : Lent} (h : Modelled m s) where
     acyclic = λ c. h .acyclic (cycle-cong (m .vertices) (edgeAt (s .words)) (m .edge) (h .fresh .bits) c);
     counts = λ i j hi hj. paths-cong (m .vertices) (m .edge) (edgeAt (s .words)) (λ x y hx hy. sym (h .fresh .bits x y hx hy)) i j _ (h .fresh .counts i j hi hj);
   }
-
-  pub modelled-below : RowsBelow (m .vertices) (s .words)
-  modelled-below = rows-iff (m .vertices) (s .words) .0 (h .fresh .rows)
 
   pub modelled-edge : (i j : ℕ) → i < m .vertices → j < m .vertices → m .edge i j ≤ 1
   modelled-edge i j hi hj = omega (arith, h .fresh .bits i j hi hj, bit-lt (rowAt (s .words) i) j)

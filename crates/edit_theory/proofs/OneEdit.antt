@@ -10,7 +10,6 @@ use Rattle.graph.proofs.Walks.{paths-cong}
 use Rattle.graph.proofs.Using.{paths-using}
 use Rattle.answer.specs.declared.Answer.{Answer}
 use Rattle.answer.specs.Table.{First}
-use Rattle.answer.specs.Answers.{decided}
 use Rattle.sheet_theory.specs.Lent.{Lent, multAt}
 use Rattle.sheet_theory.specs.Conditions.{BadVertices}
 use Rattle.sheet_theory.specs.Valid.{Valid}
@@ -19,7 +18,7 @@ use Rattle.answer.proofs.ByNumber.{first-not}
 use Rattle.sheet_theory.proofs.ValidLaws.{edge-le}
 use Rattle.edit_theory.specs.Edit.{Edges, Edit, insertEdge, named, changed}
 use Rattle.edit_theory.specs.Table.{SomeEdge, argued, mostParallel, Grounds, effects}
-use Rattle.edit_theory.specs.Outcome.{editMade, editAnswer, editAfter}
+use Rattle.edit_theory.specs.Outcome.{editAnswer, editAfter}
 use Rattle.edit_theory.specs.Book.{Model, opened}
 use Rattle.edit_theory.specs.Model.{effect, modelGrounds, modelConditions, Step, MayInsert, Fresh}
 use Rattle.edit_theory.specs.Change.{Changed}
@@ -89,10 +88,7 @@ pub edit-changes : (n : ℕ) (s : Lent) → Valid n s → (e : Edit) → editAns
     → (i j : ℕ) → i < n → j < n → Changed (e .inserts) n s (e .edges) (editAfter e s) i j
 edit-changes n s valid e q i j hi hj =
     let m = opened n s in
-    let f = subst (First (modelConditions m e)) q (number-first m s (valid-modelled valid) e) in
+    let f : First (modelConditions m e) 0 = rw q at (number-first m s (valid-modelled valid) e) in
     let a = accepted-modelled m s (valid-modelled valid) e f in
     let p = passed e s m (modelGrounds m e) f in
-    let t : editMade e s ≡ editAfter e s = sym (ap (λ k. decided k (editMade e s) s) q) in
-    let x : First (effects (e .inserts) n mostParallel (e .edges) m (modelGrounds m e)) 0 =
-    subst (λ k. First (effects (e .inserts) k mostParallel (e .edges) m (modelGrounds m e)) 0) (a .0) (p .effects) in
-    counts-change n s valid (e .edges) (editAfter e s) i j hi hj (e .inserts) (modelGrounds m e) x (subst (Fresh (effect m e)) t (a .1 .fresh))
+    counts-change n s valid (e .edges) (editAfter e s) i j hi hj (e .inserts) _ (rw (a .0) at (p .effects)) (rw q (a .1 .fresh))

@@ -1,6 +1,6 @@
 -- On a sheet worked out afresh from a model, an edit answers as the model does and leaves the sheet worked out afresh from the model
 -- afterwards. Assumes nothing.
-use mathlib.Core.Path.{_≡_, refl, sym, ap, subst, _∙_}
+use mathlib.Core.Path.{_≡_, refl, sym, ap, _∙_}
 use mathlib.Core.Logic.{inr}
 use mathlib.Core.Bool.{Bool, true, false}
 use mathlib.Core.List.{List, []}
@@ -29,8 +29,9 @@ use Rattle.sheet_theory.specs.Lent.{Lent, lent}
 use Rattle.answer.proofs.TableLaws.{reflects-iff, reflects-not, reflects-eq, first-true, first-only}
 use Rattle.answer.proofs.ByNumber.{first-not}
 use Rattle.answer.proofs.AnswerLaws.{answer-ext}
+use Rattle.sheet_theory.proofs.StrayLaws.{rows-iff}
 use Rattle.sheet_theory.proofs.LayoutLaws.{size-only}
-use Rattle.edit_theory.specs.Edit.{Edges, at, Edit, vertexOf, predecessorsOf, successorsOf, namedAt, named, marked, changed}
+use Rattle.edit_theory.specs.Edit.{Edges, at, Edit, vertexOf, predecessorsOf, successorsOf, namedAt, marked, changed}
 use Rattle.edit_theory.specs.Table.{mostParallel, clashes, effects}
 use Rattle.edit_theory.specs.Outcome.{closes, editedRow, editedBy, editedCount, edited, editNumber, editWords, editMade, editTests, editAnswer, editAfter}
 use Rattle.edit_theory.specs.Book.{Model}
@@ -39,7 +40,7 @@ use Rattle.edit_theory.proofs.TestLaws.{closes-reflects, named-into}
 use Rattle.edit_theory.proofs.NamedLaws.{named-number, named-below, marked-le, marked-inserts, marked-deletes}
 use Rattle.edit_theory.proofs.EditedRow.{bit-edited, edited-lt}
 use Rattle.edit_theory.proofs.ConditionLaws.{InOrder, Argued, table-agree, passed}
-use Rattle.edit_theory.proofs.FreshLaws.{Modelled, modelled-below, modelled-edge, modelled-count, fresh-value, paths-fit, fresh-made}
+use Rattle.edit_theory.proofs.FreshLaws.{Modelled, modelled-edge, modelled-count, fresh-value, paths-fit, fresh-made}
 
 -- ---- the words
 
@@ -96,7 +97,8 @@ module _ (m : Model) (s : Lent) (h : Modelled m s) (v a b : ℕ) (ok : InOrder (
         (editedRow inserts (s .words) v a b) (counts inserts) s (h .fresh .long) acyclic
         (paths-fit (m .vertices) (after inserts) (h .high) acyclic
         (λ i j hi hj. omega (arith, is i j hi hj, marked-le inserts (namedAt v a b i j) (m .edge i j) (modelled-edge h i j hi hj))))
-        (λ i hi. edited-below inserts (m .vertices) (s .words) v a b i (ok .vertex) (ok .successors) (modelled-below h i hi))
+        (λ i hi. edited-below inserts (m .vertices) (s .words) v a b i (ok .vertex) (ok .successors)
+        (rows-iff (m .vertices) (s .words) .0 (h .fresh .rows) i hi))
         (λ i j hi hj.
         bit-edited inserts (s .words) v a b i j (omega (arith, h .high)) ∙ ap (marked inserts (namedAt v a b i j)) (h .fresh .bits i j hi hj) ∙ is i j hi hj)
         c
@@ -193,20 +195,6 @@ module _ (m : Model) (s : Lent) (h : Modelled m s) (e : Edit) where
   same-vertices : ¬ (¬ (e .vertices ≡ m .vertices)) → e .vertices ≡ m .vertices
   same-vertices d = elim (ℕ-discrete (e .vertices) (m .vertices)) [ yes q ↦ q | no q ↦ absurd (d q) ]
 
-  -- with x for the number of vertices, the counts show a cycle exactly if there is one
-  abbrev CycleShown : ℕ → Type 0
-  CycleShown x =
-      Argued x (e .edges) → First (clashes true x mostParallel (e .edges) m []) 0
-      → Reflects (closes x (s .words) (vertexOf (e .edges)) (predecessorsOf (e .edges)) (successorsOf (e .edges))) (Cycle (m .vertices) (effect m e .edge))
-
-  cycle-shown : e .inserts ≡ true → CycleShown (m .vertices)
-  cycle-shown i a p =
-      subst
-      (λ d.
-      Reflects (closes (m .vertices) (s .words) (vertexOf (e .edges)) (predecessorsOf (e .edges)) (successorsOf (e .edges)))
-      (Cycle (m .vertices) (λ x y. changed d (named (e .edges) x y) (m .edge x y))))
-      (sym i) (cycle-reflects m s h (vertexOf (e .edges)) (predecessorsOf (e .edges)) (successorsOf (e .edges)) a p)
-
   -- THE TABLE: the number is that of the first of the model's conditions that holds
   pub number-first : First (modelConditions m e) (editNumber e s)
   number-first =
@@ -215,19 +203,16 @@ module _ (m : Model) (s : Lent) (h : Modelled m s) (e : Edit) where
       (reflects-iff (λ d q. d (h .fresh .long ∙ ap size (sym q))) (λ d q. d (size-only (e .vertices) (m .vertices) (sym q ∙ h .fresh .long)))
       (reflects-not (reflects-eq (length (s .words)) (size (e .vertices)))))
       (λ d i j hi hj. let q = same-vertices d in h .fresh .bits i j (omega (arith, q)) (omega (arith, q)))
-      (λ d a i. subst CycleShown (sym (same-vertices d)) (cycle-shown i) a))
+      (λ d a i p.
+      let q = same-vertices d in
+      rw (q, i) (cycle-reflects m s h (vertexOf (e .edges)) (predecessorsOf (e .edges)) (successorsOf (e .edges)) (rw q at a) (rw q at p))))
 
   -- an edit that is not refused says the model's own number of vertices, and leaves the sheet of the model afterwards
   pub accepted-modelled : First (modelConditions m e) 0 → (e .vertices ≡ m .vertices) × Modelled (effect m e) (editMade e s)
   accepted-modelled f =
       let p = passed e s m (modelGrounds m e) f in
       let q = same-vertices (p .same) in
-      (q, subst Done (sym q) (λ a. effect-modelled m s h (e .edges) a (e .inserts)) (p .argued) (p .effects))
-    where
-      Done : ℕ → Type 0
-      Done x =
-          let d : Edit = record { inserts = e .inserts; vertices = x; edges = e .edges } in
-          Argued x (e .edges) → First (effects (e .inserts) x mostParallel (e .edges) m (modelGrounds m d)) 0 → Modelled (effect m d) (editMade d s)
+      (q, rw q (effect-modelled m s h (e .edges) (rw q at (p .argued)) (e .inserts) (rw q at (p .effects))))
 
   -- ONE EDIT: the model, given e, answers what the edit answers, and the sheet is again the model's
   pub edit-step : (m′ : Model) × Step m e (editAnswer e s) m′ × Modelled m′ (editAfter e s) × (m′ .vertices ≡ m .vertices)

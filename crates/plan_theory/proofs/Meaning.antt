@@ -192,17 +192,11 @@ module _ (n : ℕ) (s : Lent) (p : List ℕ) (r : Answer) (q : List ℕ) (h : Wr
 
   -- where it does not refuse, the bytes after those that the value counts are as they were
   pub write-rest : r .number ≡ 0 → drop (r .value) q ≡ drop (r .value) p
-  write-rest z =
-      let e : r .value ≡ length (planOf n s) = h .value ∙ ap (λ (k : ℕ). decided k (length (planOf n s)) 0) z in
-      let b : q ≡ written (planOf n s) p = h .bytes ∙ ap (λ (k : ℕ). decided k (written (planOf n s) p) p) z in
-      rw (e, b) (written-rest (planOf n s) p)
+  write-rest z = rw (h .value, h .bytes, z) (written-rest (planOf n s) p)
 
   -- where it does not, the value counts the bytes of the plan, and these stand first in the buffer
   pub write-taken : r .number ≡ 0 → take (r .value) q ≡ planOf n s
-  write-taken z =
-      ap₂ (λ (m : ℕ) (b : List ℕ). take m b)
-      (h .value ∙ ap (λ (k : ℕ). decided k (length (planOf n s)) 0) z) (h .bytes ∙ ap (λ (k : ℕ). decided k (written (planOf n s) p) p) z)
-      ∙ written-first (planOf n s) p
+  write-taken z = rw (h .value, h .bytes, z) (written-first (planOf n s) p)
 
   -- the contract leaves nothing open
   pub write-only : (r′ : Answer) (q′ : List ℕ) → WritePlan n s p r′ q′ → (r ≡ r′) × (q ≡ q′)

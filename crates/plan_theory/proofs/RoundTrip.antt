@@ -102,14 +102,11 @@ module _ (n : ℕ) (w : ℕ → ℕ → ℕ) where
   with-new e u v Malformed d h = h
 
   module _ (low : 1 ≤ n) (high : n ≤ 64) (acyclic : Acyclic n w) where
-    no-loop : (u : ℕ) → u < n → ¬ (Edge n w u u)
-    no-loop u hu h = acyclic (cycle-of n w u u hu hu h (reach-refl n w u))
-
     -- inserting one is accepted: a cycle would be one of w
     new-passes : (e : ℕ → ℕ → ℕ) (u v : ℕ) → Within e → New e (Insert u v) → RecordNumber (model n e) (Insert u v) 0
     new-passes e u v within (hu, hv, h, z) =
         insert-first (model n e) u v (λ c. elim c [ inl l ↦ omega arith | inr l ↦ omega arith ]) hu hv
-        (λ q. no-loop u hu (rw (← q) at h)) (λ q. omega (arith, z, q)) 0
+        (λ q. acyclic (cycle-of n w u u hu hu (rw (← q) at h) (reach-refl n w u))) (λ q. omega (arith, z, q)) 0
         (inr (λ c. acyclic (cycle-widen n (with true e u v) w (with-within e u v h within) c), refl))
 
     -- records that insert edges of w, each once and none of them there, are all accepted

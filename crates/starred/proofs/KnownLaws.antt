@@ -3,7 +3,7 @@
 use mathlib.Core.Path.{_≡_, refl, sym, ap, subst, _∙_}
 use mathlib.Core.Logic.{_↔_}
 use mathlib.Core.Bool.{Bool, true, false, cond, _&&_, false≢true}
-use mathlib.Core.List.{List, [], _∷_}
+use mathlib.Core.List.{List, []}
 use Prim.Native.Nat.{ℕ, zero, suc, _≤_, _<_}
 use native.Mathlib.Decide.{ℕ-discrete}
 use native.Mathlib.Omega.{arith}
@@ -16,25 +16,31 @@ use Rattle.graph.specs.Graph.{_isIn_, Distinct, IsPath, PathsExactly, Cycle, Ac
 use Rattle.graph.proofs.Lists.{exactly-only}
 use Rattle.graph.proofs.Walks.{rising-acyclic, path-cong, cycle-cong}
 use Rattle.graph.proofs.Counting.{walkList, walkList-distinct, path-listed-iff}
-use Rattle.answer.specs.Table.{_gives_, First, firstTrue, Reflects}
+use Rattle.answer.specs.declared.Answer.{Answer}
+use Rattle.answer.specs.Table.{First, firstTrue, Reflects}
 use Rattle.answer.specs.Answers.{answer, decided}
 use Rattle.sheet_theory.specs.Lent.{Lent, multAt}
 use Rattle.sheet_theory.specs.Layout.{edgeAt}
 use Rattle.sheet_theory.specs.Calls.{pathCountAnswer}
-use Rattle.answer.proofs.TableLaws.{reflects-false, reflects-le, reflects-eq, first-true, first-rest, first-last, first-accepts}
+use Rattle.answer.proofs.TableLaws.{reflects-false, reflects-le, reflects-eq, first-true, first-rest}
 use Rattle.answer.proofs.AnswerLaws.{answer-ext}
 use Rattle.sheet_theory.proofs.Meaning.{path-count-exact}
 use Rattle.edit_theory.specs.Edit.{Edges, Edit, named, oneIf, changed}
-use Rattle.edit_theory.specs.Table.{SomeEdge, argued, mostParallel, effects}
+use Rattle.edit_theory.specs.Table.{SomeEdge, argued, mostParallel}
 use Rattle.edit_theory.specs.Outcome.{arguedTests, someEdge, editAnswer, editAfter}
 use Rattle.edit_theory.specs.Book.{opened}
-use Rattle.edit_theory.specs.Model.{effect, edgeCount, modelGrounds, Fresh}
+use Rattle.edit_theory.specs.Model.{effect, edgeCount, Fresh}
 use Rattle.edit_theory.proofs.TestLaws.{someEdge-reflects}
 use Rattle.edit_theory.proofs.ConditionLaws.{argued-agree}
 use Rattle.edit_theory.proofs.FreshLaws.{valid-modelled, fresh-only}
-use Rattle.edit_theory.proofs.OneEdit.{edit-exact, edit-effects}
+use Rattle.edit_theory.proofs.OneEdit.{edit-exact, edit-effects, edit-cycle-iff}
 use Rattle.edit_theory.proofs.Refusals.{edit-refused}
 use Rattle.starred.specs.SheetOf.{listed, edgesOf, SheetOf}
+
+-- what is refused by a number answers with it, and changes nothing
+pub refused-by : {A : Type 0} {k : ℕ} (r : Answer) (old new : A) → r .number ≡ suc k
+    → (¬ (r .number ≡ 0) → (r ≡ answer (r .number) 0 0) × (new ≡ old)) → (r ≡ answer (suc k) 0 0) × (new ≡ old)
+refused-by r old new e h = let p = h (λ z. omega (arith, e, z)) in (p .0 ∙ ap (λ k. answer k 0 0) e, p .1)
 
 -- ---- a table of numbers against another, by a test
 
@@ -98,10 +104,9 @@ module _ (n : ℕ) (l : List (ℕ × ℕ)) (s : Lent) (o : SheetOf n l s) where
   known-count i j hi hj k x =
       let r = path-count-exact n s i j (o .valid) hi hj in answer-ext _ _ (r .0) refl (exactly-only (r .1) x)
 
-  -- ---- an edit of it, whose arguments are in order and after which the edges are m
+  -- ---- an edit of it, after which the edges are m
 
-  module _ (inserts : Bool) (g : Edges) (ok : firstTrue (arguedTests n g []) ≡ 0)
-      (m : List (ℕ × ℕ)) (becomes : same n (λ i j. changed inserts (named g i j) (edgesOf l i j)) (edgesOf m) ≡ true) where
+  module _ (inserts : Bool) (g : Edges) (m : List (ℕ × ℕ)) (becomes : same n (λ i j. changed inserts (named g i j) (edgesOf l i j)) (edgesOf m) ≡ true) where
     abbrev edit : Edit
     edit = record { inserts = inserts; vertices = n; edges = g }
 
@@ -117,12 +122,6 @@ module _ (n : ℕ) (l : List (ℕ × ℕ)) (s : Lent) (o : SheetOf n l s) where
         go : (t : Bool) → oneIf (ltb 0 (oneIf t)) ≡ oneIf t
         go true = refl
         go false = refl
-
-    -- the number is that of the first condition on the edges that holds
-    first-effect : First (effects inserts n mostParallel g (opened n s) (modelGrounds (opened n s) edit)) (editAnswer edit s .number)
-    first-effect =
-        edit-effects n s (o .valid) inserts g
-        (subst (First (argued n g [])) ok (first-true (argued n g []) (arguedTests n g []) (argued-agree n g [] [] (λ a. tt))))
 
     -- an edit that is accepted leaves a sheet of the edges m, and the value is how many they are
     leaves : editAnswer edit s .number ≡ 0 → (editAnswer edit s ≡ answer 0 0 (sum n (λ i. sum n (edgesOf m i)))) × SheetOf n m (editAfter edit s)
@@ -144,6 +143,10 @@ module _ (n : ℕ) (l : List (ℕ × ℕ)) (s : Lent) (o : SheetOf n l s) where
       reflects-false (someEdge-reflects n g (λ i j. f (edgesOf l i j)) (λ i j. P (multAt n s i j)) (λ i j hi hj. rw (o .edges i j hi hj) (h (edgesOf l i j)))) .0 e
 
   module _ (g : Edges) (ok : firstTrue (arguedTests n g []) ≡ 0) (m : List (ℕ × ℕ)) where
+    -- the arguments are in order
+    in-order : First (argued n g []) 0
+    in-order = rw ok at (first-true (argued n g []) (arguedTests n g []) (argued-agree n g [] [] (λ a. tt)))
+
     -- ---- an insertion: no edge named runs from a vertex to itself, and none is there
 
     module _ (becomes : same n (λ i j. changed true (named g i j) (edgesOf l i j)) (edgesOf m) ≡ true)
@@ -151,34 +154,35 @@ module _ (n : ℕ) (l : List (ℕ × ℕ)) (s : Lent) (o : SheetOf n l s) where
       abbrev insertion : Edit
       insertion = record { inserts = true; vertices = n; edges = g }
 
-      first-cycle : First (Cycle n (effect (opened n s) insertion .edge) gives 8 ∷ []) (editAnswer insertion s .number)
-      first-cycle =
-          first-rest (none-named g (leb mostParallel) (λ x. mostParallel ≤ x) (reflects-le mostParallel) new)
-          (first-rest (reflects-false (someEdge-reflects n g eqb (λ i j. i ≡ j) (λ i j hi hj. reflects-eq i j)) .0 noLoop) (first-effect true g ok m becomes))
+      abbrev Closed : Type 0
+      Closed = Cycle n (effect (opened n s) insertion .edge)
+
+      closed-iff : ((editAnswer insertion s .number ≡ 8) ↔ Closed) × ((editAnswer insertion s .number ≡ 0) ↔ (¬ Closed))
+      closed-iff =
+          edit-cycle-iff n s (o .valid) g in-order (reflects-false (someEdge-reflects n g eqb (λ i j. i ≡ j) (λ i j hi hj. reflects-eq i j)) .0 noLoop)
+          (none-named g (leb mostParallel) (λ x. mostParallel ≤ x) (reflects-le mostParallel) new)
 
       -- if the edges m have a cycle, it is refused by 8, and no word is changed
       pub known-closes : Cycle n (edgesOf m) → (editAnswer insertion s ≡ answer 8 0 0) × (editAfter insertion s ≡ s)
       known-closes c =
-          let e : editAnswer insertion s .number ≡ 8
-          = first-last first-cycle .1 (cycle-cong n (edgesOf m) _ (λ i j hi hj. sym (after-is true g ok m becomes i j hi hj)) c) in
-          let r = edit-refused insertion s (λ z. omega (arith, e, z)) in
-          (r .0 ∙ ap (λ k. answer k 0 0) e, r .1)
+          refused-by _ s _ (closed-iff .0 .1 (cycle-cong n (edgesOf m) _ (λ i j hi hj. sym (after-is true g m becomes i j hi hj)) c))
+          (edit-refused insertion s)
 
       -- if every edge of m rises, it is accepted
       pub known-inserts : (h : ℕ → ℕ) → same n (λ i j. oneIf (listed m i j && ltb (h i) (h j))) (edgesOf m) ≡ true
           → (editAnswer insertion s ≡ answer 0 0 (sum n (λ i. sum n (edgesOf m i)))) × SheetOf n m (editAfter insertion s)
       known-inserts h e =
-          leaves true g ok m becomes
-          (first-accepts first-cycle .1
+          leaves true g m becomes
+          (closed-iff .1 .1
           (λ c. rising-acyclic n (edgesOf m) h (λ i j hi hj p. rises (h i) (h j) (listed m i j) p (same-of n _ _ e i j hi hj))
-          (cycle-cong n _ (edgesOf m) (after-is true g ok m becomes) c)))
+          (cycle-cong n _ (edgesOf m) (after-is true g m becomes) c)))
 
     -- ---- a deletion: every edge named is there
 
     pub known-deletes : same n (λ i j. changed false (named g i j) (edgesOf l i j)) (edgesOf m) ≡ true → someEdge n g (λ i j. eqb (edgesOf l i j) 0) ≡ false →
         let deletion : Edit = record { inserts = false; vertices = n; edges = g } in
         (editAnswer deletion s ≡ answer 0 0 (sum n (λ i. sum n (edgesOf m i)))) × SheetOf n m (editAfter deletion s)
-    known-deletes becomes there = leaves false g ok m becomes (first-rest (none-named g (λ x. eqb x 0) (λ x. x ≡ 0) (λ x. reflects-eq x 0) there) (first-effect false g ok m becomes))
+    known-deletes becomes there = leaves false g m becomes (first-rest (none-named g (λ x. eqb x 0) (λ x. x ≡ 0) (λ x. reflects-eq x 0) there) (edit-effects n s (o .valid) false g in-order))
 
 -- there is one sheet of these edges
 pub known-only : (n : ℕ) (l : List (ℕ × ℕ)) (s t : Lent) → SheetOf n l s → SheetOf n l t → s ≡ t

@@ -1,6 +1,6 @@
 -- THE THEOREM of document 01's starred rows (clause d): each follows from what the calls mean on a valid sheet, and from a list of paths.
 -- Assumes nothing.
-use mathlib.Core.Path.{_≡_, refl, ap, subst, _∙_}
+use mathlib.Core.Path.{_≡_, refl, subst}
 use mathlib.Core.Logic.{inl, inr, _↔_}
 use mathlib.Core.Bool.{cond, false≢true}
 use mathlib.Core.List.{List, [], _∷_}
@@ -36,7 +36,7 @@ use Rattle.query_theory.proofs.Refusals.{unrank-refused}
 use Rattle.query_theory.proofs.Meaning.{reaches-without-iff, unrank-beyond-iff, rank-exact, unrank-rank}
 use Rattle.starred.specs.SheetOf.{edgesOf, SheetOf, diamond}
 use Rattle.starred.specs.Starred.{EditRefused, PathIs, insertion, deletion, Starred}
-use Rattle.starred.proofs.KnownLaws.{every, same, known-lists, known-paths, known-count, known-closes, known-inserts, known-deletes, known-only}
+use Rattle.starred.proofs.KnownLaws.{refused-by, every, same, known-lists, known-paths, known-count, known-closes, known-inserts, known-deletes, known-only}
 
 -- ---- the paths, listed
 
@@ -116,9 +116,8 @@ module _ (d : Lent) (o : SheetOf 5 diamond d) where
 
     beyond : (unrankAnswer 5 d 0 3 2 (length buffer) ≡ answer 11 0 0) × (unrankAfter 5 d 0 3 2 buffer ≡ buffer)
     beyond =
-        let e = unrank-beyond-iff 5 d (o .valid) 0 3 2 (length buffer) (omega arith) (omega arith) room 2 two-paths .1 (omega arith) in
-        let r = unrank-refused 5 d 0 3 2 buffer (λ z. omega (arith, e, z)) in
-        (r .0 ∙ ap (λ k. answer k 0 0) e, r .1)
+        refused-by _ buffer _ (unrank-beyond-iff 5 d (o .valid) 0 3 2 (length buffer) (omega arith) (omega arith) room 2 two-paths .1 (omega arith))
+        (unrank-refused 5 d 0 3 2 buffer)
 
   edge-0-1 : 0 < edgeAt (d .words) 0 1
   edge-0-1 = rw (o .edges 0 1 (omega arith) (omega arith)) (omega arith)
@@ -177,8 +176,7 @@ module _ (e : Lent) (o : SheetOf 1 [] e) where
       let z = edit-table (insertEdge 1 0 0) e 5 .1
       (shape-passed 1 e (o .valid .shape) rest 5
       (inr (λ c. elim c [ inl l ↦ omega arith | inr l ↦ omega arith ], inl ((0, omega arith, 0, omega arith, refl, refl), refl)))) in
-      let r = edit-refused (insertEdge 1 0 0) e (λ q. omega (arith, z, q)) in
-      (r .0 ∙ ap (λ k. answer k 0 0) z, r .1)
+      refused-by _ e _ z (edit-refused (insertEdge 1 0 0) e)
 
 -- THE THEOREM: of every valid sheet of one vertex without an edge, of every valid sheet that has D's edges, and of every buffer of 5 bytes or more
 pub starred : (e d : Lent) (buffer : List ℕ) → SheetOf 1 [] e → SheetOf 5 diamond d → 5 ≤ length buffer → Starred e d buffer
