@@ -124,20 +124,13 @@ module _ (n : ℕ) (s : List ℕ) (v a b : ℕ) (t : Bool) (p : Reflects t (Meet
             | no d ↦ through k i hk hi (omega (arith, bit-set-other a v k d, ap (λ y. bit y k) em)) (omega arith) x
           ]
 
+      kept : (k : ℕ) → bit a k ≡ 1 → bit m k ≡ 1
+      kept k o = rw em (elim (ℕ-discrete k v) [ yes z ↦ rw z (bit-set-same a v) | no d ↦ bit-set-other a v k d ∙ o ])
+
       back : Closed → SomeOf n b (Meets n s m)
       back (into k hk o x) = absurd (reflects-false p .0 e (k, hk, omega arith, x))
       back (out i hi o x) = (i, hi, omega arith, (v, h, ap (λ y. bit y v) em ∙ bit-set-same a v, x))
-      back (through k i hk hi ok oi x) = (
-        i,
-        hi,
-        omega arith,
-        (
-          k,
-          hk,
-          ap (λ y. bit y k) em ∙ elim (ℕ-discrete k v) [ yes z ↦ rw z (bit-set-same a v) | no d ↦ omega (arith, bit-set-other a v k d) ],
-          x,
-        ),
-      )
+      back (through k i hk hi ok oi x) = (i, hi, omega arith, (k, hk, kept k (omega arith), x))
 
 -- ---- edit_number
 

@@ -73,9 +73,6 @@ unfolding edgeOf
 insert-only u v i j e = (ap (λ (x : Record). edgeOf x .0) e, ap (λ (x : Record). edgeOf x .1) e)
 
 -- and each edge is one of them
-said-in : (s : Lent) (i j : ℕ) → edgeAt (s .words) i j ≡ 1 → Insert i j isIn edgeInsert s i j
-said-in s i j e = rw e (inl refl)
-
 pub edge-records-iff : (n : ℕ) (s : Lent) (i j : ℕ) → i < n → j < n → (Insert i j isIn edgeRecords n s) ↔ (edgeAt (s .words) i j ≡ 1)
 unfolding edgeRecords
 edge-records-iff n s i j hi hj = (
@@ -83,7 +80,7 @@ edge-records-iff n s i j hi hj = (
       let r = edge-records-of n s (Insert i j) m in
       let q = insert-only i j (r .0) (r .2) (r .4) in
       ap₂ (λ (x y : ℕ). edgeAt (s .words) x y) (q .0) (q .1) ∙ r .5,
-  λ e. gather-in n (rowInserts n s) (Insert i j) i hi (gather-in n (edgeInsert s i) (Insert i j) j hj (said-in s i j e)),
+  λ e. gather-in n (rowInserts n s) (Insert i j) i hi (gather-in n (edgeInsert s i) (Insert i j) j hj (rw e (inl refl))),
 )
 
 -- ---- reading

@@ -142,20 +142,15 @@ module _ (n : ℕ) (s : Lent) (valid : Valid n s) where
   plan-taken = rw (plan-records n s (valid .shape .high)) (plan-gained .taken)
 
   -- so it comes to the edges of s
-  gained-iff : (i j : ℕ) → i < n → j < n → (0 < plan-gained .edge i j) ↔ (edgeAt (s .words) i j ≡ 1)
-  gained-iff i j hi hj =
-      let p = plan-gained .edges i j in
-      let q = edge-records-iff n s i j hi hj in (
-        λ h. elim (p .0 h) [ inl a ↦ absurd (omega (arith, a, empty-edge n i j hi hj)) | inr a ↦ q .0 a ],
-        λ h. p .1 (inr (q .1 h)),
-      )
-
   gained-edge : (i j : ℕ) → i < n → j < n → plan-gained .edge i j ≤ 1 → plan-gained .edge i j ≡ edgeAt (s .words) i j
   gained-edge i j hi hj one =
-      let p = gained-iff i j hi hj in
+      let p = plan-gained .edges i j in
+      let q = edge-records-iff n s i j hi hj in
       elim (ℕ-discrete (edgeAt (s .words) i j) 1) [
-        | yes e ↦ omega (arith, p .1 e)
-        | no d ↦ let c : 0 < plan-gained .edge i j → ⊥ = λ h. d (p .0 h) in omega (arith, edge-le (s .words) i j)
+        | yes e ↦ omega (arith, p .1 (inr (q .1 e)))
+        | no d ↦
+            let c : 0 < plan-gained .edge i j → ⊥ = λ h. elim (p .0 h) [ inl a ↦ omega (arith, a, empty-edge n i j hi hj) | inr a ↦ d (q .0 a) ] in
+            omega (arith, edge-le (s .words) i j)
       ]
 
   plan-passed : First (readConditions n (emptyLent n) (planOf n s)) 0
