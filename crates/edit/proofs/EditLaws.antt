@@ -53,19 +53,13 @@ edit-written inserts n s v a b h u w eu ew x ex =
 
 -- ---- made or not, by the number k that the checks gave
 
-made-refused : (Number : ℕ → Type 0) (e : Edit) (s : Lent) (k : ℕ) → Number k → (r : Answer) → (k ≡ 0 → ⊥) → r ≡ answer k 0 0 → Made Number e s r s
+pub made-refused : (Number : ℕ → Type 0) (e : Edit) (s : Lent) (k : ℕ) → Number k → (r : Answer) → (k ≡ 0 → ⊥) → r ≡ answer k 0 0 → Made Number e s r s
 made-refused Number e s k f r d er = rw er (record { number = f; answers = sym (answered-not k _ d); leaves = sym (decided-old k _ s d) })
 
--- the ways out of `edit_at`
-module _ (inserts : Bool) (n : ℕ) (s : Lent) (v a b k : ℕ) (f : EditNumber inserts n s v a b k) (r : Answer) where
-  abbrev Done : Lent → Type 0
-  Done t = Made (EditNumber inserts n s v a b) (edgesEdit inserts n v a b) s r t
-
-  pub effect-refused : (k ≡ 0 → ⊥) → r ≡ answer k 0 0 → Done s
-  effect-refused = made-refused (EditNumber inserts n s v a b) (edgesEdit inserts n v a b) s k f r
-
-  pub effect-made : (w : List ℕ) (x : ℕ) → k ≡ 0 → Written inserts n (s .words) v a b x w → r ≡ answer 0 0 x → Done (lent w)
-  effect-made w x z h er = rw er (record { number = rw z at f; answers = ap (answer 0 0) (h .value); leaves = ap lent (h .words) })
+-- the way out of `edit_at` where it is made
+pub effect-made : (inserts : Bool) (n : ℕ) (s : Lent) (v a b k : ℕ) → EditNumber inserts n s v a b k → (r : Answer) (w : List ℕ) (x : ℕ) → k ≡ 0
+    → Written inserts n (s .words) v a b x w → r ≡ answer 0 0 x → Made (EditNumber inserts n s v a b) (edgesEdit inserts n v a b) s r (lent w)
+effect-made inserts n s v a b k f r w x z h er = rw er (record { number = rw z at f; answers = ap (answer 0 0) (h .value); leaves = ap lent (h .words) })
 
 -- ---- the cores: k is the number that the arguments gave
 

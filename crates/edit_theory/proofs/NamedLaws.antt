@@ -26,17 +26,13 @@ bit-delta : (x i j v : ℕ) → ¬ ((bit x i ≡ 1) × (j ≡ v)) → bit x i * 
 bit-delta x i j v h = elim (bit-cases x i) [ inl z ↦ rw z (zero-mul (delta j v)) | inr o ↦ rw (delta-diff j v (λ q. h (o, q))) (mul-zero (bit x i)) ]
 
 module _ (v a b : ℕ) where
-  -- an edge that is not named is counted on neither side
-  unnamed : (i j : ℕ) → namedAt v a b i j ≡ false → (bit a i * delta j v ≡ 0) × (delta i v * bit b j ≡ 0)
-  unnamed i j e =
-      let no = reflects-false (named-reflects v a b i j) .0 e in
-      (bit-delta a i j v (λ p. no (inl p)), mul-comm (delta i v) (bit b j) ∙ bit-delta b j i v (λ p. no (inr (p .1, p .0))))
-
   pub named-number : bit a v ≡ 0 → (i j : ℕ) → oneIf (namedAt v a b i j) ≡ bit a i * delta j v + delta i v * bit b j
   named-number z i j = go (namedAt v a b i j) refl
     where
       go : (t : Bool) → namedAt v a b i j ≡ t → oneIf t ≡ bit a i * delta j v + delta i v * bit b j
-      go false e = let u = unnamed i j e in omega (arith, u .0, u .1)
+      go false e =
+          let no = reflects-false (named-reflects v a b i j) .0 e in
+          omega (arith, bit-delta a i j v (λ p. no (inl p)), mul-comm (delta i v) (bit b j), bit-delta b j i v (λ p. no (inr (p .1, p .0))))
       go true e =
           elim (named-of v a b i j e) [
             | inl p ↦
