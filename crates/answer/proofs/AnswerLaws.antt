@@ -1,6 +1,7 @@
 -- The laws of answers: what a call answers and leaves, by the number that its checks gave. Assumes nothing.
 use mathlib.Core.Path.{_≡_, refl, sym, ap, _∙_}
 use Prim.Native.Nat.{ℕ, zero, suc}
+use native.Mathlib.Omega.{arith}
 use Rattle.answer.specs.declared.Answer.{Answer}
 use Rattle.answer.specs.Table.{Conditions, First}
 use Rattle.answer.specs.Answers.{answer, decided, answered}
@@ -17,6 +18,11 @@ answered-not k v d = ap (answer k 0) (decided-old k v 0 d)
 pub answer-ext : (r r′ : Answer) → r .number ≡ r′ .number → r .place ≡ r′ .place → r .value ≡ r′ .value → r ≡ r′
 answer-ext r r′ a b c =
     ap (λ (x : ℕ). answer x (r .place) (r .value)) a ∙ ap (λ (x : ℕ). answer (r′ .number) x (r .value)) b ∙ ap (λ (x : ℕ). answer (r′ .number) (r′ .place) x) c
+
+-- what is refused by a number answers with it, and changes nothing
+pub refused-by : {A : Type 0} {k : ℕ} (r : Answer) (old new : A) → r .number ≡ suc k
+    → (¬ (r .number ≡ 0) → (r ≡ answer (r .number) 0 0) × (new ≡ old)) → (r ≡ answer (suc k) 0 0) × (new ≡ old)
+refused-by r old new e h = let p = h (λ z. omega (arith, e, z)) in (p .0 ∙ ap (λ k. answer k 0 0) e, p .1)
 
 -- ---- the first of two numbers that refuses: k, or where that is 0 then j
 

@@ -16,7 +16,6 @@ use Rattle.graph.specs.Count.{pathCount}
 use Rattle.graph.proofs.Lists.{exactly-only}
 use Rattle.graph.proofs.Walks.{paths-cong, cycle-cong}
 use Rattle.graph.proofs.Counting.{pathCount-exact}
-use Rattle.graph.proofs.Bound.{paths-below}
 use Rattle.sheet_theory.specs.Layout.{size, rowAt, countAt, edgeAt, setBits, redone}
 use Rattle.sheet_theory.specs.Lent.{Lent, lent}
 use Rattle.sheet_theory.specs.Valid.{Valid}
@@ -78,11 +77,6 @@ fresh-only n w w′ s t h f g =
     (λ j hj. f .bits i j hi hj ∙ h i j hi hj ∙ sym (g .bits i j hi hj)))
     (λ i j hi hj. exactly-only (paths-cong n w w′ h i j _ (f .counts i j hi hj)) (g .counts i j hi hj))
     (λ k q l. absurd (rest-none n k q l)))
-
--- no count of 64 vertices and single edges leaves 64 bits
-pub paths-fit : (n : ℕ) (w : ℕ → ℕ → ℕ) → n ≤ 64 → Acyclic n w → ((i j : ℕ) → i < n → j < n → w i j ≤ 1)
-    → (i j : ℕ) → i < n → j < n → pathCount n w i j < 2 ^ 64
-paths-fit n w high acyclic one i j hi hj = paths-below n w acyclic high i j _ hi hj (pathCount-exact n w acyclic one i j hi)
 
 -- words with the model's edges for rows, and its counts modulo 2 ^ 64, are its sheet if no count leaves 64 bits
 pub fresh-made : (m : Model) (r : ℕ → ℕ) (c : ℕ → ℕ → ℕ) (s : Lent) → length (s .words) ≡ size (m .vertices)

@@ -19,6 +19,7 @@ use Rattle.graph.specs.Count.{pathCount}
 use Rattle.graph.specs.Update.{inserted, updated, into, out, through, Closes}
 use Rattle.graph.proofs.Walks.{cycle-cong, cycle-widen, reach-refl, cycle-of}
 use Rattle.graph.proofs.Recurrence.{pathCount-cong}
+use Rattle.graph.proofs.Bound.{pathCount-below}
 use Rattle.graph.proofs.Editing.{cycle-iff-closes}
 use Rattle.graph.proofs.Remainders.{insertion-mod, deletion-mod}
 use Rattle.answer.specs.declared.Answer.{Answer}
@@ -40,7 +41,7 @@ use Rattle.edit_theory.proofs.TestLaws.{closes-reflects, named-into}
 use Rattle.edit_theory.proofs.NamedLaws.{named-number, named-below, marked-le, marked-inserts, marked-deletes}
 use Rattle.edit_theory.proofs.EditedRow.{bit-edited, edited-lt}
 use Rattle.edit_theory.proofs.ConditionLaws.{InOrder, Argued, table-agree, passed}
-use Rattle.edit_theory.proofs.FreshLaws.{Modelled, modelled-edge, modelled-count, fresh-value, paths-fit, fresh-made}
+use Rattle.edit_theory.proofs.FreshLaws.{Modelled, modelled-edge, modelled-count, fresh-value, fresh-made}
 
 -- ---- the words
 
@@ -95,7 +96,7 @@ module _ (m : Model) (s : Lent) (h : Modelled m s) (v a b : ℕ) (ok : InOrder (
     acyclic = acyclic;
     fresh = fresh-made (record { vertices = m .vertices; edge = after inserts })
         (editedRow inserts (s .words) v a b) (counts inserts) s (h .fresh .long) acyclic
-        (paths-fit (m .vertices) (after inserts) (h .high) acyclic
+        (pathCount-below (m .vertices) (after inserts) acyclic (h .high)
         (λ i j hi hj. omega (arith, is i j hi hj, marked-le inserts (namedAt v a b i j) (m .edge i j) (modelled-edge h i j hi hj))))
         (λ i hi. edited-below inserts (m .vertices) (s .words) v a b i (ok .vertex) (ok .successors)
         (rows-iff (m .vertices) (s .words) .0 (h .fresh .rows) i hi))

@@ -8,11 +8,12 @@ use native.Mathlib.Nat.{pow-suc, pow-le-pow-right}
 use native.Mathlib.Decide.{ℕ-discrete}
 use native.Mathlib.Omega.{arith}
 use lib.ListN.{length, length-append}
+use Rattle.graph.specs.Count.{pathCount}
 use Rattle.graph.specs.Graph.{_isIn_, Distinct, Walk, IsPath, PathsExactly, Acyclic}
 use Rattle.graph.proofs.Lists.{in?, in-left, in-right, in-either, when, when-in, when-of, each, each-in, each-length, images-le, exactly-only}
 use Rattle.graph.proofs.Pigeon.{Others, others}
 use Rattle.graph.proofs.Walks.{walk-below, walk-end, Reach, reach-trans, walk-reach, cycle-of}
-use Rattle.graph.proofs.Counting.{exactly-self}
+use Rattle.graph.proofs.Counting.{exactly-self, pathCount-exact}
 
 -- ---- the entries of s that are in l, and all that this can be
 
@@ -128,3 +129,7 @@ module _ (n : ℕ) (w : ℕ → ℕ → ℕ) (acyclic : Acyclic n w) where
         | yes e ↦ omega (arith, bound-self n w i k hi (rw (← e) at r))
         | no d ↦ let h : n - 2 ≤ 62 = omega arith in omega (arith, bound i j k hi hj d r, pow-le-pow-right {n = 2} (omega arith) h)
       ]
+
+  -- so what `pathCount` says of single edges fits a word
+  pub pathCount-below : n ≤ 64 → ((i j : ℕ) → i < n → j < n → w i j ≤ 1) → (i j : ℕ) → i < n → j < n → pathCount n w i j < 2 ^ 64
+  pathCount-below hn one i j hi hj = paths-below hn i j _ hi hj (pathCount-exact n w acyclic one i j hi)

@@ -17,7 +17,7 @@ use Rattle.graph.specs.Count.{pathCount}
 use Rattle.graph.proofs.Lists.{exactly-only}
 use Rattle.graph.proofs.Recurrence.{pathCount-recurrence, pathCount-cong, recurrence-mod-only}
 use Rattle.graph.proofs.Counting.{pathCount-exact}
-use Rattle.graph.proofs.Bound.{paths-below}
+use Rattle.graph.proofs.Bound.{pathCount-below}
 use Rattle.answer.specs.Table.{Conditions, First}
 use Rattle.sheet_theory.specs.Layout.{rowAt, countAt, edgeAt}
 use Rattle.sheet_theory.specs.Lent.{Lent, lent, Lends}
@@ -38,7 +38,7 @@ module _ (n : ℕ) (s : List ℕ) (high : n ≤ 64) (acyclic : Acyclic n (edgeAt
   paths-exactly i j hi = pathCount-exact n (edgeAt s) acyclic (λ a b ha hb. edge-le s a b) i j hi
 
   pub paths-fit : (i j : ℕ) → i < n → j < n → pathCount n (edgeAt s) i j % 2 ^ 64 ≡ pathCount n (edgeAt s) i j
-  paths-fit i j hi hj = mod-eq-of-lt (paths-below n (edgeAt s) acyclic high i j _ hi hj (paths-exactly i j hi))
+  paths-fit i j hi hj = mod-eq-of-lt (pathCount-below n (edgeAt s) acyclic high (λ a b ha hb. edge-le s a b) i j hi hj)
 
   -- counts that satisfy the recurrence are the numbers of paths
   holds-count : ((i : ℕ) → i < n → CountsHold n s i) → (i j : ℕ) → i < n → j < n → countAt n s i j ≡ pathCount n (edgeAt s) i j

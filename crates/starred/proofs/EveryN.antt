@@ -9,7 +9,7 @@ use Rattle.graph.proofs.Bound.{bound-self, bound, paths-below}
 use Rattle.answer.specs.declared.Answer.{Answer}
 use Rattle.answer.specs.Answers.{answer}
 use Rattle.sheet_theory.specs.Conditions.{BadVertices}
-use Rattle.answer.proofs.AnswerLaws.{answer-ext}
+use Rattle.answer.proofs.AnswerLaws.{answer-ext, refused-by}
 use Rattle.sheet_theory.proofs.Refusals.{empty-table, empty-refused, path-count-table, path-count-refused}
 use Rattle.recount_theory.proofs.Refusals.{recount-table, recount-refused, validate-table, validate-refused}
 use Rattle.edit_theory.specs.Edit.{Edit}
@@ -17,7 +17,6 @@ use Rattle.edit_theory.proofs.Refusals.{edit-table, edit-refused}
 use Rattle.query_theory.proofs.Refusals.{reaches-without-table, reaches-without-refused, unrank-table, unrank-refused, rank-table, rank-refused}
 use Rattle.plan_theory.proofs.Meaning.{read-early, read-refused, write-table, write-refused}
 use Rattle.starred.specs.EveryN.{EveryCallRefused, EveryN}
-use Rattle.starred.proofs.KnownLaws.{refused-by}
 
 -- an answer whose number is 1, and which is refused so, is 1, 0, 0
 one : (r : Answer) → r .number ≡ 1 → (¬ (r .number ≡ 0) → r ≡ answer (r .number) 0 0) → r ≡ answer 1 0 0

@@ -16,14 +16,13 @@ use Rattle.graph.specs.Graph.{_isIn_, Distinct, IsPath, PathsExactly, Cycle, Ac
 use Rattle.graph.proofs.Lists.{exactly-only}
 use Rattle.graph.proofs.Walks.{rising-acyclic, path-cong, cycle-cong}
 use Rattle.graph.proofs.Counting.{walkList, walkList-distinct, path-listed-iff}
-use Rattle.answer.specs.declared.Answer.{Answer}
 use Rattle.answer.specs.Table.{First, firstTrue, Reflects}
 use Rattle.answer.specs.Answers.{answer, decided}
 use Rattle.sheet_theory.specs.Lent.{Lent, multAt}
 use Rattle.sheet_theory.specs.Layout.{edgeAt}
 use Rattle.sheet_theory.specs.Calls.{pathCountAnswer}
 use Rattle.answer.proofs.TableLaws.{reflects-false, reflects-le, reflects-eq, first-true, first-rest}
-use Rattle.answer.proofs.AnswerLaws.{answer-ext}
+use Rattle.answer.proofs.AnswerLaws.{answer-ext, refused-by}
 use Rattle.sheet_theory.proofs.Meaning.{path-count-exact}
 use Rattle.edit_theory.specs.Edit.{Edges, Edit, named, oneIf, changed}
 use Rattle.edit_theory.specs.Table.{SomeEdge, argued, mostParallel}
@@ -36,11 +35,6 @@ use Rattle.edit_theory.proofs.FreshLaws.{valid-modelled, fresh-only}
 use Rattle.edit_theory.proofs.OneEdit.{edit-exact, edit-effects, edit-cycle-iff}
 use Rattle.edit_theory.proofs.Refusals.{edit-refused}
 use Rattle.starred.specs.SheetOf.{listed, edgesOf, SheetOf}
-
--- what is refused by a number answers with it, and changes nothing
-pub refused-by : {A : Type 0} {k : ℕ} (r : Answer) (old new : A) → r .number ≡ suc k
-    → (¬ (r .number ≡ 0) → (r ≡ answer (r .number) 0 0) × (new ≡ old)) → (r ≡ answer (suc k) 0 0) × (new ≡ old)
-refused-by r old new e h = let p = h (λ z. omega (arith, e, z)) in (p .0 ∙ ap (λ k. answer k 0 0) e, p .1)
 
 -- ---- a table of numbers against another, by a test
 

@@ -20,7 +20,7 @@ use Rattle.answer.specs.Answers.{answer}
 use Rattle.sheet_theory.specs.Lent.{Lent, emptyLent}
 use Rattle.sheet_theory.specs.Layout.{edgeAt}
 use Rattle.sheet_theory.proofs.ShapeLaws.{shape-passed}
-use Rattle.answer.proofs.AnswerLaws.{answer-ext}
+use Rattle.answer.proofs.AnswerLaws.{answer-ext, refused-by}
 use Rattle.sheet_theory.proofs.Meaning.{empty-valid, empty-edge}
 use Rattle.edit_theory.specs.Edit.{one, at, insertEdge, insertEdgesAt}
 use Rattle.edit_theory.specs.Book.{opened}
@@ -36,7 +36,7 @@ use Rattle.query_theory.proofs.Refusals.{unrank-refused}
 use Rattle.query_theory.proofs.Meaning.{reaches-without-iff, unrank-beyond-iff, rank-exact, unrank-rank}
 use Rattle.starred.specs.SheetOf.{edgesOf, SheetOf, diamond}
 use Rattle.starred.specs.Starred.{EditRefused, PathIs, insertion, deletion, Starred}
-use Rattle.starred.proofs.KnownLaws.{refused-by, every, same, known-lists, known-paths, known-count, known-closes, known-inserts, known-deletes, known-only}
+use Rattle.starred.proofs.KnownLaws.{every, same, known-lists, known-paths, known-count, known-closes, known-inserts, known-deletes, known-only}
 
 -- ---- the paths, listed
 
