@@ -73,15 +73,12 @@ pub over-only : (l t : List ℕ) (b : ℕ) (f : ℕ → ℕ) (m : ℕ) → b + m
     → ((j : ℕ) → j < m → getD t (b + j) 0 ≡ f j) → ((k : ℕ) → (k < b) ⊎ (b + m ≤ k) → getD t k 0 ≡ getD l k 0) → t ≡ over l b f m
 over-only l t b f m h long inside outside = ext-getD 0 t (over l b f m) (long ∙ sym (length-puts l (λ j. b + j) f m)) at
   where
-    out : (k : ℕ) → (k < b) ⊎ (b + m ≤ k) → getD t k 0 ≡ getD (over l b f m) k 0
-    out k q = outside k q ∙ sym (over-out l b f m k q)
-
     at : (k : ℕ) → k < length t → getD t k 0 ≡ getD (over l b f m) k 0
     at k q =
         elim (decLt k b) [
-          | yes p ↦ out k (inl p)
+          | yes p ↦ outside k (inl p) ∙ sym (over-out l b f m k (inl p))
           | no p ↦ elim (decLt k (b + m)) [
-            | no o ↦ out k (inr (omega arith))
+            | no o ↦ outside k (inr (omega arith)) ∙ sym (over-out l b f m k (inr (omega arith)))
             | yes o ↦
                 let p′ : b + (k - b) ≡ k = omega arith in
                 subst (λ (x : ℕ). getD t x 0 ≡ getD (over l b f m) x 0) p′ (inside (k - b) (omega arith) ∙ sym (over-in l b f m (k - b) h (omega arith)))
