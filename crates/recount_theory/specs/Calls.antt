@@ -26,7 +26,7 @@ pub record Recounted (n : ℕ) (s t : Lent) : Type 0 where
   pub kept : t ≡ lent (redone n (rowAt (s .words)) (countAt n (t .words)) (s .words))
   pub counts : (i j : ℕ) → i < n → j < n → PathsExactly n (edgeAt (s .words)) i j (countAt n (t .words) i j)
 
--- what answers r and turns s into t, by the first of the conditions cs that holds
+-- a recount answers r and turns s into t, and is refused by the first of the conditions cs that holds
 pub record RecountBy (cs : Conditions) (n : ℕ) (s : Lent) (r : Answer) (t : Lent) : Type 0 where
   pub number : First cs (r .number)
   pub place : r .place ≡ 0
@@ -34,7 +34,7 @@ pub record RecountBy (cs : Conditions) (n : ℕ) (s : Lent) (r : Answer) (t : Le
   pub accepted : r .number ≡ 0 → Recounted n s t
   pub refused : ¬ (r .number ≡ 0) → t ≡ s
 
--- recount answers r and turns s into t
+-- the call `recount`, by all its conditions
 abbrev pub Recount : ℕ → Lent → Answer → Lent → Type 0
 Recount n s r t = RecountBy (recountConditions n s) n s r t
 
