@@ -26,7 +26,7 @@ fn fill_counts(n: usize, sheet: &mut [u64], order: &[usize; Sheet::VERTICES])
     count_blocks::fill_blocks(n, sheet, order);
 }
 
-// Internal: the counts of a sheet of the right shape, worked out afresh from the rows. Refused by 4, 8, before a word is written.
+// Internal: the counts of a sheet of the right shape, worked out afresh from the rows. 4 and 8 are looked for before a word is written.
 pub fn recount_core(n: usize, sheet: &mut [u64]) -> Answer
     requires { ⌜ Shape n (now sheet) ⌝ }
     ensures { λ r. ⌜ RecountBy (rowConditions n (lent (now (sheet .entry)))) n (lent (now (sheet .entry))) r (lent (now (sheet .exit))) ⌝ }
