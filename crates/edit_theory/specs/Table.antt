@@ -24,7 +24,7 @@ abbrev pub argued : ℕ → Edges → Conditions → Conditions
 argued n (one u v) l = vertexConditions n u v l
 argued n (at v a b) l = NoVertex n v gives 3 ∷ (StrayBit n a ⊎ StrayBit n b) gives 4 ∷ l
 
--- the most edges from a vertex to another that an edit lays
+-- how many edges there may be from a vertex to another
 abbrev pub mostParallel : ℕ
 mostParallel = 1
 

@@ -1,5 +1,5 @@
--- The laws of places and of rows of counts: a row added to another or taken off it, counts from one vertex written, and the rows of a mask
--- added up or taken off. Assumes nothing.
+-- The laws of places, of words added to others or taken off them, of the counts from one vertex written, and of the counts from the
+-- vertices of a mask added up or taken off. Assumes nothing.
 use mathlib.Core.Path.{_≡_, refl, sym, ap, ap₂, _∙_}
 use mathlib.Core.Logic.{_⊎_, inl, inr}
 use mathlib.Core.List.{List}
@@ -92,7 +92,7 @@ module _ {op : ℕ → ℕ → ℕ} (wraps : Wraps op) (n : ℕ) (s : List ℕ) 
   passes : (t : List ℕ) → Passes n mask (SumsBy op n s c w mask a t)
   passes t k h z was = record { long = was .long; each = λ j l q. terms-pass wraps mask (λ b. countAt n s b (c + j)) (getD a j 0) n _ k h z (was .each j l q) }
 
-  -- the words of the row of b are added or taken off
+  -- the counts from b are added or taken off
   pub summing-more : (t u : List ℕ) (rest b base r : ℕ) → w ≤ length a → Summing op n s c w mask a rest t → Lowest rest b → CountsFrom n b base
       → u ≡ wordsBy op w s (base + c) t → LowestCleared rest r → Summing op n s c w mask a r u
   summing-more t u rest b base r h was l at row er =
