@@ -1,6 +1,6 @@
 -- Where there is no cycle, at most 2 ^ (n - 2) paths lead from one vertex to another: a path is known by which of the other vertices it comes to.
 -- So with up to 64 vertices, and at most one edge from a vertex to another, every count is below 2 ^ 64. Assumes nothing.
-use mathlib.Core.Path.{◌≡◌, refl, sym, ap, ap₂, ◌∙◌}
+use mathlib.Core.Path.{◌≡◌, refl, sym, ap, ap₂, subst, ◌∙◌}
 use mathlib.Core.Logic.{inl, inr}
 use mathlib.Core.List.{List, [], ◌∷◌, ◌++◌}
 use Prim.Native.Nat.{ℕ, ◌-◌, ◌^◌, ◌≤◌, ◌<◌}
@@ -89,7 +89,7 @@ module _ (n : ℕ) (w : ℕ → ℕ → ℕ) (acyclic : Acyclic n w) where
         elim (o.all x (walk_below n w i l j p x r)) [
           | inl t ↦ absurd (d.0 (rw t at r))
           | inr t ↦ later (elim t [
-            | inl u ↦ rw u (walk_end n w i m j q)
+            | inl u ↦ subst (λ (y : ℕ). y is_in (i ∷ m)) (sym u) (walk_end n w i m j q)
             | inr u ↦ among_of o.list (i ∷ m) x (rw e at (among_in o.list (i ∷ l) x u (inr r)))
           ])
         ]

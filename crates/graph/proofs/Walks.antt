@@ -1,5 +1,5 @@
 -- Walks, and with them paths and cycles: put together, from end to end, and in a graph with more edges. Assumes nothing.
-use mathlib.Core.Path.{◌≡◌, refl, sym}
+use mathlib.Core.Path.{◌≡◌, refl, sym, subst}
 use mathlib.Core.Logic.{inl, inr}
 use mathlib.Core.List.{List, [], ◌∷◌, ◌++◌}
 use Prim.Native.Nat.{ℕ, ◌≤◌, ◌<◌}
@@ -44,7 +44,7 @@ module _ (n : ℕ) (w : ℕ → ℕ → ℕ) where
   pub path_self_only : (i : ℕ) (l : List ℕ) → IsPath n w i i l → l ≡ i ∷ []
   path_self_only i [] p = absurd p
   path_self_only i (a ∷ []) p = rw p.0
-  path_self_only i (a ∷ b ∷ l) p = absurd (p.3.0 (rw p.0 (walk_end b l i p.2.2)))
+  path_self_only i (a ∷ b ∷ l) p = absurd (p.3.0 (subst (λ (x : ℕ). x is_in (b ∷ l)) (sym p.0) (walk_end b l i p.2.2)))
 
   -- ---- where one can come to
 

@@ -73,8 +73,8 @@ returns-2 c =
     block_of a.args.n a.args.sheet.now a.args.order.now a.requires.2 a.args.c _
     (each_holds (VertexHolds a.args.n a.args.sheet.now a.args.order.now a.args.c) _ _ c.before.loop.invariant.2 (omega arith))
 
-pub block-holds-spec : {M : Type 1} → statement M
-block-holds-spec =
+pub block_holds_spec : {M : Type 1} → statement M
+block_holds_spec =
     tie.close
     (tie.spec invariant-loop decreases-loop block-mask-requires loop-holds (λ c. omega arith) element-copy-out-i mul-mask shared-slice-read-mask lead-requires part-holds-requires returns
     (λ c. omega arith) (λ c. omega arith) loop-again returns-2)

@@ -7,5 +7,5 @@ use Rattle.count_blocks.proofs.block_mask.Tie as tie
 returns : tie.Need-returns
 returns c = search block_columns
 
-pub block-mask-spec : {M : Type 1} → statement M
-block-mask-spec = tie.close (tie.spec (λ c. omega arith) (λ c κs. search rules) (λ c κs. search rules) returns)
+pub block_mask_spec : {M : Type 1} → statement M
+block_mask_spec = tie.close (tie.spec (λ c. omega arith) (λ c κs. search rules) (λ c κs. search rules) returns)

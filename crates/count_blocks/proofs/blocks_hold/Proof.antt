@@ -31,8 +31,8 @@ loop-again c =
 returns-2 : tie.Need-returns-2 invariant-loop decreases-loop
 returns-2 c = held_all _ _ _ c.before.loop.invariant.1 (omega arith)
 
-pub blocks-hold-spec : {M : Type 1} → statement M
-blocks-hold-spec =
+pub blocks_hold_spec : {M : Type 1} → statement M
+blocks_hold_spec =
     tie.close
     (tie.spec invariant-loop decreases-loop (λ c κs. search rules) loop-holds (λ c κs. omega arith) block-holds-requires returns (λ c. omega arith) (λ c. omega arith)
     loop-again returns-2)

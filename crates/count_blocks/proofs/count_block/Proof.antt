@@ -7,5 +7,5 @@ use Rattle.count_blocks.proofs.count_block.Tie as tie
 returns : tie.Need-returns
 returns c = search block_counted
 
-pub count-block-spec : {M : Type 1} → statement M
-count-block-spec = tie.close (tie.spec (λ c. search rules) (λ c κs. search rules) (λ c κs. search rules) returns)
+pub count_block_spec : {M : Type 1} → statement M
+count_block_spec = tie.close (tie.spec (λ c. search rules) (λ c κs. search rules) (λ c κs. search rules) returns)

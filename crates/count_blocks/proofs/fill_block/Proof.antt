@@ -74,8 +74,8 @@ returns c =
     let a = c.before.before.before.before in
     filled_all _ _ _ a.requires.2 a.requires.0.shape _ 16 a.requires.0.within _ _ c.before.loop.invariant.1 (omega arith)
 
-pub fill-block-spec : {M : Type 1} → statement M
-fill-block-spec =
+pub fill_block_spec : {M : Type 1} → statement M
+fill_block_spec =
     tie.close
     (tie.spec invariant-loop decreases-loop block-mask-requires loop-holds (λ c. omega arith) element-copy-out-i mul-mask slice-read-mask lead-requires fill-part-requires (λ c. omega arith)
     (λ c. omega arith) loop-again same_length returns)

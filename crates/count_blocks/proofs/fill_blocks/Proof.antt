@@ -39,8 +39,8 @@ same_length c = c.before.loop.invariant.1.long
 returns : tie.Need-returns invariant-loop decreases-loop
 returns c = columns_all _ _ _ _ c.before.loop.invariant.1 (omega arith)
 
-pub fill-blocks-spec : {M : Type 1} → statement M
-fill-blocks-spec =
+pub fill_blocks_spec : {M : Type 1} → statement M
+fill_blocks_spec =
     tie.close
     (tie.spec invariant-loop decreases-loop (λ c κs. search rules) loop-holds (λ c κs. omega arith) fill-block-requires (λ c. omega arith) (λ c. omega arith) loop-again
     same_length returns)

@@ -7,7 +7,7 @@ use Rattle.count_blocks.proofs.fill_part.Tie as tie
 returns : tie.Need-returns
 returns c = search (part_filled, c.before.before.before.before.before.before.count-block.ensures)
 
-pub fill-part-spec : {M : Type 1} → statement M
-fill-part-spec =
+pub fill_part_spec : {M : Type 1} → statement M
+fill_part_spec =
     tie.close
     (tie.spec (λ c κs. search rules) (λ c. search rules) (λ c κs. search rules) (λ c. search rules) (λ c κs. search rules) (λ c. search rules) returns)

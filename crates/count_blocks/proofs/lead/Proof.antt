@@ -10,5 +10,5 @@ returns c = search led_set
 returns-2 : tie.Need-returns-2
 returns-2 c = led_same _ _ _ (omega (arith, eqb-true))
 
-pub lead-spec : {M : Type 1} → statement M
-lead-spec = tie.close (tie.spec (λ c κs. search rules) returns returns-2)
+pub lead_spec : {M : Type 1} → statement M
+lead_spec = tie.close (tie.spec (λ c κs. search rules) returns returns-2)

@@ -11,8 +11,8 @@ returns c =
     part_same a.n a.sheet.now a.i a.c a.mask _ c.before.before.before.before.before.before.before.before.before.before.counts-from.ensures _ _ _ c.before.before.before.before.before.before.before.before.add_words.ensures c.before.before.before.before.before.take_own.ensures
     c.before.before.before.take-counts.ensures _ (λ k. omega (arith, c.before.before.before.before.before.before.before.before.before.before.before.shared-slice-known.given k)) c.same_words.ensures
 
-pub part-holds-spec : {M : Type 1} → statement M
-part-holds-spec =
+pub part_holds_spec : {M : Type 1} → statement M
+part_holds_spec =
     tie.close
     (tie.spec (λ c κs. omega arith) (λ c. omega arith) (λ c. search rules) (λ c κs. omega arith) (λ c κs. search rules) (λ c κs. search rules)
     (λ c. search rules) (λ c. search rules) (λ c κs. omega arith) returns)

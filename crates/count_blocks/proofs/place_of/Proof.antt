@@ -7,5 +7,5 @@ use Rattle.count_blocks.proofs.place_of.Tie as tie
 returns : tie.Need-returns
 returns c = search place_found
 
-pub place-of-spec : {M : Type 1} → statement M
-place-of-spec = tie.close (tie.spec (λ c κs. search rules) returns)
+pub place_of_spec : {M : Type 1} → statement M
+place_of_spec = tie.close (tie.spec (λ c κs. search rules) returns)

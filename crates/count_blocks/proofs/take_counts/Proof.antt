@@ -42,8 +42,8 @@ loop-again c =
 returns : tie.Need-returns invariant-loop decreases-loop
 returns c = summing_done minus_wraps _ _ _ 16 _ _ _ _ c.before.loop.invariant (omega (arith, eqb-true))
 
-pub take-counts-spec : {M : Type 1} → statement M
-take-counts-spec =
+pub take_counts_spec : {M : Type 1} → statement M
+take_counts_spec =
     tie.close
     (tie.spec invariant-loop decreases-loop loop-holds lowest-bit-requires counts-from-requires (λ c. omega arith) take-words-requires (λ c κs. omega arith) loop-less loop-again
     returns)

@@ -16,5 +16,5 @@ returns c =
 returns-2 : tie.Need-returns-2
 returns-2 c = own_out minus _ _ _ c.before.before.requires.3 minus_wraps (c.before.place_of.ensures.outside (omega arith))
 
-pub take-own-spec : {M : Type 1} → statement M
-take-own-spec = tie.close (tie.spec (λ c κs. search rules) (λ c. omega arith) (λ c κs. omega arith) returns returns-2)
+pub take_own_spec : {M : Type 1} → statement M
+take_own_spec = tie.close (tie.spec (λ c κs. search rules) (λ c. omega arith) (λ c κs. omega arith) returns returns-2)

@@ -7,5 +7,5 @@ use Rattle.count_blocks.proofs.unit_words.Tie as tie
 returns : tie.Need-returns
 returns c = unit_made
 
-pub unit-words-spec : {M : Type 1} → statement M
-unit-words-spec = tie.close (tie.spec (λ c. search rules) returns)
+pub unit_words_spec : {M : Type 1} → statement M
+unit_words_spec = tie.close (tie.spec (λ c. search rules) returns)

@@ -10,7 +10,7 @@ returns c = search made_refused
 returns-2 : tie.Need-returns-2
 returns-2 c = search effect_made
 
-pub edit-at-spec : {M : Type 1} → statement M
-edit-at-spec =
+pub edit_at_spec : {M : Type 1} → statement M
+edit_at_spec =
     tie.close
     (tie.spec (λ c κs. search rules) (λ c κs. search rules) (λ c. search rules) returns (λ c κs. search rules) (λ c κs. search rules) (λ c. search rules) returns-2)

@@ -21,5 +21,5 @@ returns-2 c =
     let a = left.before.before.before.before.args in
     call_edited (edge_edit a.inserts a.n a.from a.to) _ _ left.before.altering-number.ensures _ _ left.if1.false core.edit-edge-core.ensures
 
-pub edit-edge-spec : {M : Type 1} → statement M
-edit-edge-spec = tie.close (tie.spec (λ c κs. search rules) (λ c κs. search rules) (λ c. search rules) returns core-requires (λ c. search rules) returns-2)
+pub edit_edge_spec : {M : Type 1} → statement M
+edit_edge_spec = tie.close (tie.spec (λ c κs. search rules) (λ c κs. search rules) (λ c. search rules) returns core-requires (λ c. search rules) returns-2)

@@ -23,5 +23,5 @@ edit-at-requires c κs =
 returns-2 : tie.Need-returns-2
 returns-2 c = search edge_edited
 
-pub edit-edge-core-spec : {M : Type 1} → statement M
-edit-edge-core-spec = tie.close (tie.spec (λ c κs. search rules) (λ c κs. search rules) returns shl-edit-at edit-at-requires (λ c. search rules) returns-2)
+pub edit_edge_core_spec : {M : Type 1} → statement M
+edit_edge_core_spec = tie.close (tie.spec (λ c κs. search rules) (λ c κs. search rules) returns shl-edit-at edit-at-requires (λ c. search rules) returns-2)

@@ -21,5 +21,5 @@ returns-2 c =
     let a = left.before.before.before.before.args in
     call_edited (edges_edit a.inserts a.n a.v a.predecessors a.successors) _ _ left.before.altering-number.ensures _ _ left.if1.false core.edit-edges-core.ensures
 
-pub edit-edges-at-spec : {M : Type 1} → statement M
-edit-edges-at-spec = tie.close (tie.spec (λ c κs. search rules) (λ c κs. search rules) (λ c. search rules) returns core-requires (λ c. search rules) returns-2)
+pub edit_edges_at_spec : {M : Type 1} → statement M
+edit_edges_at_spec = tie.close (tie.spec (λ c κs. search rules) (λ c κs. search rules) (λ c. search rules) returns core-requires (λ c. search rules) returns-2)

@@ -19,5 +19,5 @@ edit-at-requires c κs =
 returns-2 : tie.Need-returns-2
 returns-2 c = search core_edited
 
-pub edit-edges-core-spec : {M : Type 1} → statement M
-edit-edges-core-spec = tie.close (tie.spec (λ c κs. search rules) (λ c κs. search rules) returns edit-at-requires (λ c. search rules) returns-2)
+pub edit_edges_core_spec : {M : Type 1} → statement M
+edit_edges_core_spec = tie.close (tie.spec (λ c κs. search rules) (λ c κs. search rules) returns edit-at-requires (λ c. search rules) returns-2)

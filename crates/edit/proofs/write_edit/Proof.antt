@@ -7,5 +7,5 @@ use Rattle.edit.proofs.write_edit.Tie as tie
 returns : tie.Need-returns
 returns c = search edit_written
 
-pub write-edit-spec : {M : Type 1} → statement M
-write-edit-spec = tie.close (tie.spec (λ c κs. search rules) (λ c κs. search rules) (λ c κs. search rules) (λ c. search rules) returns)
+pub write_edit_spec : {M : Type 1} → statement M
+write_edit_spec = tie.close (tie.spec (λ c κs. search rules) (λ c κs. search rules) (λ c κs. search rules) (λ c. search rules) returns)

@@ -33,8 +33,8 @@ same_length c = c.before.loop.invariant.1
 returns-2 : tie.Need-returns-2 invariant-loop decreases-loop
 returns-2 c = puts_done _ _ _ _ c.before.loop.j _ c.before.loop.invariant.2 (omega arith)
 
-pub add-multiple-spec : {M : Type 1} → statement M
-add-multiple-spec =
+pub add_multiple_spec : {M : Type 1} → statement M
+add_multiple_spec =
     tie.close
     (tie.spec invariant-loop decreases-loop returns loop-holds (λ c. omega arith) (λ c. omega arith) (λ c. omega arith) (λ c. omega arith) (λ c. omega arith)
     (λ c κs. search rules) (λ c κs. search rules) (λ c. omega arith) (λ c. omega arith) (λ c. omega arith) (λ c. omega arith) (λ c. omega arith)

@@ -37,7 +37,7 @@ same_length c = c.before.loop.invariant.1.long
 returns : tie.Need-returns invariant-loop decreases-loop
 returns c = let l = c.before.loop in editing_all _ _ _ _ _ _ _ _ l.invariant.1 (omega arith)
 
-pub edit-both-spec : {M : Type 1} → statement M
-edit-both-spec =
+pub edit_both_spec : {M : Type 1} → statement M
+edit_both_spec =
     tie.close
     (tie.spec invariant-loop decreases-loop (λ c κs. omega arith) loop-holds edit-counts-from-requires (λ c. omega arith) (λ c. omega arith) loop-again same_length returns)

@@ -10,7 +10,7 @@ returns c = search counts_edited_lem
 returns-2 : tie.Need-returns-2
 returns-2 c = search counts_edited_lem
 
-pub edit-counts-spec : {M : Type 1} → statement M
-edit-counts-spec =
+pub edit_counts_spec : {M : Type 1} → statement M
+edit_counts_spec =
     tie.close
     (tie.spec (λ c κs. search rules) (λ c κs. search rules) (λ c. search rules) returns (λ c κs. search rules) (λ c. search rules) returns-2)

@@ -7,8 +7,8 @@ use Rattle.edit_counts.proofs.edit_counts_from.Tie as tie
 returns : tie.Need-returns
 returns c = search counts_from_edited_lem
 
-pub edit-counts-from-spec : {M : Type 1} → statement M
-edit-counts-from-spec =
+pub edit_counts_from_spec : {M : Type 1} → statement M
+edit_counts_from_spec =
     tie.close
     (tie.spec (λ c κs. search rules) (λ c. search rules) (λ c. search rules) (λ c. search rules) (λ c κs. search rules) (λ c κs. search rules)
     (λ c κs. search rules) (λ c κs. search rules) (λ c. search rules) returns)

@@ -34,8 +34,8 @@ same_length c = c.before.loop.invariant.editing.long
 returns : tie.Need-returns invariant-loop decreases-loop
 returns c = let pre = c.before.before.before.before.requires in at_all _ _ _ _ _ pre.0 pre.1 _ _ c.before.loop.invariant (omega arith)
 
-pub edit-to-spec : {M : Type 1} → statement M
-edit-to-spec =
+pub edit_to_spec : {M : Type 1} → statement M
+edit_to_spec =
     tie.close
     (tie.spec invariant-loop decreases-loop (λ c κs. search rules) loop-holds (λ c. omega (arith, fits c)) (λ c. omega (arith, fits c)) (λ c. omega (arith, fits c.before))
     (λ c κs. search rules) (λ c κs. omega (arith, fits c.before.before.before))

@@ -10,5 +10,5 @@ returns c = search from_insert
 returns-2 : tie.Need-returns-2
 returns-2 c = search from_delete
 
-pub from-factor-spec : {M : Type 1} → statement M
-from-factor-spec = tie.close (tie.spec (λ c κs. search rules) returns (λ c κs. search rules) returns-2)
+pub from_factor_spec : {M : Type 1} → statement M
+from_factor_spec = tie.close (tie.spec (λ c κs. search rules) returns (λ c κs. search rules) returns-2)

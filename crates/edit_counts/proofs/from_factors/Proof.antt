@@ -31,8 +31,8 @@ loop-again c =
 returns : tie.Need-returns invariant-loop decreases-loop
 returns c = puts_done _ _ _ _ c.before.loop.j _ c.before.loop.invariant.1 (omega arith)
 
-pub from-factors-spec : {M : Type 1} → statement M
-from-factors-spec =
+pub from_factors_spec : {M : Type 1} → statement M
+from_factors_spec =
     tie.close
     (tie.spec invariant-loop decreases-loop (λ c κs. omega arith) loop-holds (λ c. omega arith) (λ c. omega arith) (λ c. omega arith) (λ c. omega arith)
     (λ c. omega arith) (λ c κs. search rules) (λ c. omega arith) (λ c. omega arith) (λ c. omega arith) (λ c. omega arith) loop-again returns)

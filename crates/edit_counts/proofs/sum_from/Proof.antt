@@ -42,8 +42,8 @@ returns c =
     let a = c.before.before.before.before.args in
     from_done a.n a.sheet.now a.i a.mask _ _ c.before.loop.invariant (omega (arith, eqb-true))
 
-pub sum-from-spec : {M : Type 1} → statement M
-sum-from-spec =
+pub sum_from_spec : {M : Type 1} → statement M
+sum_from_spec =
     tie.close
     (tie.spec invariant-loop decreases-loop (λ c κs. omega arith) loop-holds lowest-bit-requires add-wrapping-add mul-wrapping-add shared-slice-read-wrapping-add
     (λ c κs. search rules) (λ c κs. omega arith) loop-less loop-again returns)

@@ -10,5 +10,5 @@ returns c = search to_insert
 returns-2 : tie.Need-returns-2
 returns-2 c = search to_delete
 
-pub to-factor-spec : {M : Type 1} → statement M
-to-factor-spec = tie.close (tie.spec returns (λ c κs. search rules) returns-2)
+pub to_factor_spec : {M : Type 1} → statement M
+to_factor_spec = tie.close (tie.spec returns (λ c κs. search rules) returns-2)

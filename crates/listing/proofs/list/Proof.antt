@@ -8,5 +8,5 @@ use Rattle.listing.proofs.list.Tie as tie
 returns : tie.Need-returns
 returns c = search (list_count, list_bytes)
 
-pub list-spec : {M : Type 1} → statement M
-list-spec = tie.close (tie.spec (λ c κs. search rules) (λ c. search rules) (λ c κs. search rules) (λ c. search rules) (λ c κs. search (rules, greatest)) returns)
+pub list_spec : {M : Type 1} → statement M
+list_spec = tie.close (tie.spec (λ c κs. search rules) (λ c. search rules) (λ c κs. search rules) (λ c. search rules) (λ c κs. search (rules, greatest)) returns)

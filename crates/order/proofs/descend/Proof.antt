@@ -57,8 +57,8 @@ returns-2 c =
     let a = l.before.before.before.before in
     descended _ _ a.requires.0.high _ a.requires.2 _ _ _ l.loop.invariant.0 l.loop.invariant.1 c.loop-test.false a.requires.1
 
-pub descend-spec : {M : Type 1} → statement M
-descend-spec =
+pub descend_spec : {M : Type 1} → statement M
+descend_spec =
     tie.close
     (tie.spec invariant-loop decreases-loop look-ahead-requires loop-holds returns (λ c κs. omega arith) (λ c. omega (arith, room c.before)) (λ c. omega (arith, room c.before))
     (λ c. omega (arith, room c.before)) mul_next shared-slice-read-next (λ c. omega (arith, room c.before.before)) loop-again returns-2)

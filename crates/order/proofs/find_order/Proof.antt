@@ -71,8 +71,8 @@ returns-2 c =
     let a = l.before.before.before in
     order_complete _ _ a.requires.0.high _ _ l.loop.invariant.0 c.if1.false
 
-pub find-order-spec : {M : Type 1} → statement M
-find-order-spec =
+pub find_order_spec : {M : Type 1} → statement M
+find_order_spec =
     tie.close
     (tie.spec invariant-loop decreases-loop (λ c κs. omega arith) loop-holds descend-requires returns (λ c. omega arith) mul-take-away array-read-take-away
     take-away-requires loop-less loop-again returns-2)

@@ -23,5 +23,5 @@ returns c = ahead_first _ _ _ _ c.if1.true
 returns-2 : tie.Need-returns-2
 returns-2 c = ahead_later _ _ _ _ c.before.before.if1.false
 
-pub look-ahead-spec : {M : Type 1} → statement M
-look-ahead-spec = tie.close (tie.spec returns (λ c. search rules) (λ c. search rules) (λ c. search rules) mul-result shared-slice-read-result returns-2)
+pub look_ahead_spec : {M : Type 1} → statement M
+look_ahead_spec = tie.close (tie.spec returns (λ c. search rules) (λ c. search rules) (λ c. search rules) mul-result shared-slice-read-result returns-2)

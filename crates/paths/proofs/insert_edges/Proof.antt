@@ -9,8 +9,8 @@ invariant-loop n sheet₀ m text k₀ sheet k = length sheet ≡ length sheet₀
 abbrev decreases-loop : tie.decreases-loop
 decreases-loop n sheet₀ m text k₀ sheet k = m - k
 
-pub insert-edges-spec : {M : Type 1} → statement M
-insert-edges-spec =
+pub insert_edges_spec : {M : Type 1} → statement M
+insert_edges_spec =
     tie.close
     (tie.spec invariant-loop decreases-loop (λ c. search rules) (λ c κs. search rules) (λ c κs. search rules) (λ c. search rules) (λ c. search rules)
     (λ c. search rules) (λ c κs. search rules) (λ c. search rules) (λ c. search rules) (λ c. search rules) (λ c. search rules)

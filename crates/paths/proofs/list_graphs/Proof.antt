@@ -9,8 +9,8 @@ invariant-loop text line₀ k₀ line k = Unit {0}
 abbrev decreases-loop : tie.decreases-loop
 decreases-loop text line₀ k₀ line k = 2 ^ 64 - k
 
-pub list-graphs-spec : {M : Type 1} → statement M
-list-graphs-spec =
+pub list_graphs_spec : {M : Type 1} → statement M
+list_graphs_spec =
     tie.close
     (tie.spec invariant-loop decreases-loop (λ c. search rules) (λ c κs. search rules) (λ c κs. search rules) (λ c. search rules) (λ c κs. search rules)
     (λ c. search rules) (λ c. search rules) (λ c. search rules) (λ c. search rules))

@@ -17,7 +17,7 @@ apply-core-requires c κs =
     let plan = c.before.before.before.before.before.before.args.plan.now in
     read_ready _ _ plan _ c.before.before.read_number.ensures c.before.if1.false
 
-pub read-plan-spec : {M : Type 1} → statement M
-read-plan-spec =
+pub read_plan_spec : {M : Type 1} → statement M
+read_plan_spec =
     tie.close
     (tie.spec (λ c κs. search rules) (λ c κs. search rules) (λ c. search rules) returns apply-core-requires (λ c. search rules) returns-2)

@@ -33,8 +33,8 @@ write-rows-requires c κs =
     let plan = at.before.before.before.before.args.plan.now in
     write_fits _ _ _ at.before.sheet-number.ensures plan at.if1.false _ c.before.before.count-set-bits.ensures c.before.if2.false
 
-pub write-plan-spec : {M : Type 1} → statement M
-write-plan-spec =
+pub write_plan_spec : {M : Type 1} → statement M
+write_plan_spec =
     tie.close
     (tie.spec (λ c κs. search rules) (λ c κs. search rules) returns count-set-bits-requires mul-bytes (λ c κs. search rules) returns-2
     write-rows-requires (λ c κs. search rules) (λ c. search rules) returns-3)

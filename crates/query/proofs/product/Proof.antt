@@ -7,5 +7,5 @@ use Rattle.query.proofs.product.Tie as tie
 returns : tie.Need-returns
 returns c = search product_cong
 
-pub product-spec : {M : Type 1} → statement M
-product-spec = tie.close (tie.spec (λ c κs. search rules) (λ c κs. search rules) (λ c κs. search rules) returns)
+pub product_spec : {M : Type 1} → statement M
+product_spec = tie.close (tie.spec (λ c κs. search rules) (λ c κs. search rules) (λ c κs. search rules) returns)

@@ -14,5 +14,5 @@ returns-2 c = search rank_accepted
 path-rank-requires : tie.Need-path-rank-requires
 path-rank-requires c κs = rank_ready _ _ c.before.before.before.before.args.path.now _ c.before.rank-number.ensures c.if1.false
 
-pub rank-spec : {M : Type 1} → statement M
-rank-spec = tie.close (tie.spec (λ c κs. search rules) (λ c κs. search rules) returns path-rank-requires (λ c κs. search rules) returns-2)
+pub rank_spec : {M : Type 1} → statement M
+rank_spec = tie.close (tie.spec (λ c κs. search rules) (λ c κs. search rules) returns path-rank-requires (λ c κs. search rules) returns-2)

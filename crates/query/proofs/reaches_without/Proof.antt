@@ -22,8 +22,8 @@ count-at-requires c κs =
     let r = without_ready _ _ _ _ _ _ _ c.before.before.without-number.ensures c.before.if1.false in
     (r.0, r.1, r.2)
 
-pub reaches-without-spec : {M : Type 1} → statement M
-reaches-without-spec =
+pub reaches_without_spec : {M : Type 1} → statement M
+reaches_without_spec =
     tie.close
     (tie.spec (λ c κs. search rules) (λ c κs. search rules) returns product-requires count-at-requires (λ c κs. search rules) returns-2
     (λ c κs. search rules) returns-3)

@@ -49,8 +49,8 @@ put-requires c κs =
     let r = walk_ready _ _ _ _ _ _ _ walk.before.before.before.walk-number.ensures walk.before.before.if1.false in
     omega (arith, aside_taken walk.walk-aside.ensures r.0.high, walk.walk-aside.ensures.within, r.3)
 
-pub unrank-spec : {M : Type 1} → statement M
-unrank-spec =
+pub unrank_spec : {M : Type 1} → statement M
+unrank_spec =
     tie.close
     (tie.spec (λ c κs. search rules) (λ c κs. search rules) returns walk-aside-requires (λ c κs. search rules) returns-2 array-share-prefix-aside
     slice-aggregate-put put-requires (λ c κs. search rules) (λ c. search rules) returns-3)

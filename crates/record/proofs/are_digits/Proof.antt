@@ -34,5 +34,5 @@ returns-2 : tie.Need-returns-2
 unfolding are_digits
 returns-2 c = let j = c.before in four_none (tens-low j) (tens-high j) (ones_low j) _ _ _ (first j) (second j) c.if3.false
 
-pub are-digits-spec : {M : Type 1} → statement M
-are-digits-spec = tie.close (tie.spec returns returns-2)
+pub are_digits_spec : {M : Type 1} → statement M
+are_digits_spec = tie.close (tie.spec returns returns-2)

@@ -36,8 +36,8 @@ from-digits-requires-2 c κs =
     let to = c.before.before.before.before.before in
     digits_hold _ _ _ to.before.are-digits2.ensures to.if6.false
 
-pub decode-spec : {M : Type 1} → statement M
-decode-spec =
+pub decode_spec : {M : Type 1} → statement M
+decode_spec =
     tie.close
     (tie.spec returns (λ c. search rules) (λ c. search rules) (λ c. search rules) returns-2 (λ c. search rules) (λ c. search rules)
     (λ c κs. search rules) (λ c. search rules) (λ c. search rules) (λ c κs. search rules) returns-3 (λ c. search rules) (λ c. search rules)

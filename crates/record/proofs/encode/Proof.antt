@@ -6,5 +6,5 @@ use Rattle.record.proofs.encode.Tie as tie
 returns : tie.Need-returns
 returns c = cc c.ones2.ensures
 
-pub encode-spec : {M : Type 1} → statement M
-encode-spec = tie.close (tie.spec (λ c κs. search rules) (λ c κs. search rules) (λ c κs. search rules) (λ c κs. search rules) returns)
+pub encode_spec : {M : Type 1} → statement M
+encode_spec = tie.close (tie.spec (λ c κs. search rules) (λ c κs. search rules) (λ c κs. search rules) (λ c κs. search rules) returns)

@@ -10,7 +10,7 @@ sub-result c = search tens_digit
 sub-result-2 : tie.Need-overflow-sub-result-2
 sub-result-2 c = search ones_digit
 
-pub from-digits-spec : {M : Type 1} → statement M
-from-digits-spec =
+pub from_digits_spec : {M : Type 1} → statement M
+from_digits_spec =
     tie.close
     (tie.spec sub-result (λ c. search rules) (λ c. search rules) sub-result-2 (λ c. search rules) (λ c. search rules) (λ c. search rules))

@@ -14,5 +14,5 @@ valid-number-requires c κs = shape_of _ _ _ c.before.altering-number.ensures c.
 returns-2 : tie.Need-returns-2
 returns-2 c = sheet_then _ _ _ c.before.before.altering-number.ensures c.before.if1.false _ c.valid_number.ensures
 
-pub altering-sheet-number-spec : {M : Type 1} → statement M
-altering-sheet-number-spec = tie.close (tie.spec (λ c κs. search rules) returns valid-number-requires returns-2)
+pub altering_sheet_number_spec : {M : Type 1} → statement M
+altering_sheet_number_spec = tie.close (tie.spec (λ c κs. search rules) returns valid-number-requires returns-2)

@@ -4,5 +4,5 @@ use borrow.Author.Rules.{rules}
 use Rattle.recount.proofs.fill_counts.Statement.{statement}
 use Rattle.recount.proofs.fill_counts.Tie as tie
 
-pub fill-counts-spec : {M : Type 1} → statement M
-fill-counts-spec = tie.close (tie.spec (λ c κs. search rules) (λ c. search rules) (λ c. search rules) (λ c κs. search (rules, arith)) (λ c. search rules) (λ c. search rules))
+pub fill_counts_spec : {M : Type 1} → statement M
+fill_counts_spec = tie.close (tie.spec (λ c κs. search rules) (λ c. search rules) (λ c. search rules) (λ c κs. search (rules, arith)) (λ c. search rules) (λ c. search rules))

@@ -28,7 +28,7 @@ blocks-hold-requires c κs = search (rows_below, c.before.before.before.find-ord
 returns-4 : tie.Need-returns-4
 returns-4 c = search (valid_holds, not-false)
 
-pub is-valid-spec : {M : Type 1} → statement M
-is-valid-spec =
+pub is_valid_spec : {M : Type 1} → statement M
+is_valid_spec =
     tie.close
     (tie.spec (λ c κs. search rules) returns find-order-requires returns-2 all-counts-hold-requires returns-3 blocks-hold-requires returns-4)

@@ -16,6 +16,6 @@ returns-2 c =
     let m = c.before.before in
     recount_made _ _ _ m.before.before.before.altering-number.ensures m.before.before.if1.false _ _ m.recount-core.ensures
 
-pub recount-spec : {M : Type 1} → statement M
-recount-spec =
+pub recount_spec : {M : Type 1} → statement M
+recount_spec =
     tie.close (tie.spec (λ c κs. search rules) (λ c κs. search rules) (λ c. search rules) returns recount-core-requires (λ c. search rules) returns-2)

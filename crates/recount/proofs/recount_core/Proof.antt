@@ -24,8 +24,8 @@ fill-counts-requires c κs = (search rules, search rows_below, c.before.before.b
 count-set-bits-requires : tie.Need-count-set-bits-requires
 count-set-bits-requires c κs = search recount_shape
 
-pub recount-core-spec : {M : Type 1} → statement M
-recount-core-spec =
+pub recount_core_spec : {M : Type 1} → statement M
+recount_core_spec =
     tie.close
     (tie.spec (λ c κs. search rules) (λ c κs. search rules) (λ c. search rules) returns
     find-order-requires (λ c κs. search rules) (λ c. search rules) returns-2 fill-counts-requires count-set-bits-requires (λ c κs. search rules)

@@ -14,5 +14,5 @@ valid-number-requires c κs = shape_of _ _ _ c.before.shape-number.ensures c.if1
 returns-2 : tie.Need-returns-2
 returns-2 c = sheet_then _ _ _ c.before.before.shape-number.ensures c.before.if1.false _ c.valid_number.ensures
 
-pub sheet-number-spec : {M : Type 1} → statement M
-sheet-number-spec = tie.close (tie.spec (λ c κs. search rules) returns valid-number-requires returns-2)
+pub sheet_number_spec : {M : Type 1} → statement M
+sheet_number_spec = tie.close (tie.spec (λ c κs. search rules) returns valid-number-requires returns-2)

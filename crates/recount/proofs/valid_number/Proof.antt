@@ -10,5 +10,5 @@ returns c = search valid_number
 returns-2 : tie.Need-returns-2
 returns-2 c = search valid_number_not
 
-pub valid-number-spec : {M : Type 1} → statement M
-valid-number-spec = tie.close (tie.spec (λ c κs. search rules) returns returns-2)
+pub valid_number_spec : {M : Type 1} → statement M
+valid_number_spec = tie.close (tie.spec (λ c κs. search rules) returns returns-2)

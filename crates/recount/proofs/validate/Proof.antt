@@ -17,8 +17,8 @@ returns-2 c = search (validate_valid _ _ _ c.before.before.before.before.shape-n
 returns-3 : tie.Need-returns-3
 returns-3 c = search (validate_not _ _ _ c.before.before.before.before.shape-number.ensures)
 
-pub validate-spec : {M : Type 1} → statement M
-validate-spec =
+pub validate_spec : {M : Type 1} → statement M
+validate_spec =
     tie.close
     (tie.spec (λ c κs. search rules) (λ c κs. search rules) returns is-valid-requires (λ c κs. search rules) returns-2 (λ c κs. search rules)
     returns-3)

@@ -10,8 +10,8 @@ invariant-loop line forms most k₀ k = Unit {0}
 abbrev decreases-loop : tie.decreases-loop
 decreases-loop line forms most k₀ k = most - k
 
-pub form-spec : {M : Type 1} → statement M
-form-spec =
+pub form_spec : {M : Type 1} → statement M
+form_spec =
     tie.close
     (tie.spec invariant-loop decreases-loop (λ c κs. search rules) (λ c. search rules) (λ c κs. search rules) (λ c κs. search rules) (λ c. search rules)
     (λ c. search rules) (λ c. search rules) (λ c. search rules) (λ c. search rules))

@@ -9,8 +9,8 @@ invariant-loop line k₀ k = Unit {0}
 abbrev decreases-loop : tie.decreases-loop
 decreases-loop line k₀ k = k
 
-pub has-decimals-spec : {M : Type 1} → statement M
-has-decimals-spec =
+pub has_decimals_spec : {M : Type 1} → statement M
+has_decimals_spec =
     tie.close
     (tie.spec invariant-loop decreases-loop (λ c κs. search rules) (λ c. search rules) (λ c κs. search rules) (λ c κs. search rules) (λ c. search rules)
     (λ c. search rules) (λ c. search rules) (λ c. search rules) (λ c. search rules) (λ c. search rules) (λ c. search rules))

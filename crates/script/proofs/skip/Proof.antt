@@ -9,8 +9,8 @@ invariant-loop text separator k rest₀ left₀ rest left = Unit {0}
 abbrev decreases-loop : tie.decreases-loop
 decreases-loop text separator k rest₀ left₀ rest left = left
 
-pub skip-spec : {M : Type 1} → statement M
-skip-spec =
+pub skip_spec : {M : Type 1} → statement M
+skip_spec =
     tie.close
     (tie.spec invariant-loop decreases-loop (λ c. search rules) (λ c κs. search rules) (λ c. search rules) (λ c. search rules) (λ c. search rules)
     (λ c. search rules) (λ c. search rules) (λ c. search rules) (λ c. search rules))

@@ -28,7 +28,7 @@ returns-2 c =
     accepted_as (empty_conditions n s) _ _ f.before.before.before.altering-number.ensures (empty_first n s) (empty_lent n) s _ 0 _ f.before.before.if1.false
     c.accepted.ensures (ap lent f.fill-empty.ensures)
 
-pub empty-spec : {M : Type 1} → statement M
-empty-spec =
+pub empty_spec : {M : Type 1} → statement M
+empty_spec =
     tie.close
     (tie.spec (λ c κs. search rules) (λ c κs. search rules) (λ c. search rules) returns fill-empty-requires (λ c κs. search rules) (λ c. search rules) returns-2)

@@ -27,5 +27,5 @@ returns-2 c =
 count-at-requires : tie.Need-count-at-requires
 count-at-requires c κs = vertices_ready _ _ _ _ _ c.before.vertices-number.ensures c.if1.false
 
-pub path-count-spec : {M : Type 1} → statement M
-path-count-spec = tie.close (tie.spec (λ c κs. search rules) (λ c κs. search rules) returns count-at-requires (λ c κs. search rules) returns-2)
+pub path_count_spec : {M : Type 1} → statement M
+path_count_spec = tie.close (tie.spec (λ c κs. search rules) (λ c κs. search rules) returns count-at-requires (λ c κs. search rules) returns-2)

@@ -41,7 +41,7 @@ returns-2 c =
     let a = c.before.before.before.args in
     each_holds (λ k. CountsHold a.n a.sheet.now k) a.n c.before.loop.i c.before.loop.invariant.1 (omega arith)
 
-pub all-counts-hold-spec : {M : Type 1} → statement M
-all-counts-hold-spec =
+pub all_counts_hold_spec : {M : Type 1} → statement M
+all_counts_hold_spec =
     tie.close
     (tie.spec invariant-loop decreases-loop loop-holds counts-hold-requires returns (λ c. omega arith) (λ c. omega arith) loop-again returns-2)

@@ -10,5 +10,5 @@ returns c =
     let a = b.before.before.before.args in
     holds_same a.n a.sheet.now _ a.i _ _ b.counts-from.ensures b.before.sum-successors.ensures c.same_words.ensures
 
-pub counts-hold-spec : {M : Type 1} → statement M
-counts-hold-spec = tie.close (tie.spec (λ c κs. search rules) (λ c κs. search rules) (λ c. search rules) (λ c κs. search rules) returns)
+pub counts_hold_spec : {M : Type 1} → statement M
+counts_hold_spec = tie.close (tie.spec (λ c κs. search rules) (λ c κs. search rules) (λ c. search rules) (λ c κs. search rules) returns)

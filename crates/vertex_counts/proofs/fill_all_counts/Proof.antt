@@ -39,8 +39,8 @@ returns c =
     let all = filled_all _ _ _ a.requires.2 a.requires.0 0 _ (omega arith) _ _ c.before.loop.invariant.1 (omega arith) in
     columns_all _ _ _ _ all (omega arith)
 
-pub fill-all-counts-spec : {M : Type 1} → statement M
-fill-all-counts-spec =
+pub fill_all_counts_spec : {M : Type 1} → statement M
+fill_all_counts_spec =
     tie.close
     (tie.spec invariant-loop decreases-loop loop-holds (λ c. omega arith) (λ c. omega arith) fill-counts-from-requires (λ c. omega arith) (λ c. omega arith) loop-again
     same_length returns)

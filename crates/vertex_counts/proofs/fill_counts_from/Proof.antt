@@ -7,5 +7,5 @@ use Rattle.vertex_counts.proofs.fill_counts_from.Tie as tie
 returns : tie.Need-returns
 returns c = search counts_filled
 
-pub fill-counts-from-spec : {M : Type 1} → statement M
-fill-counts-from-spec = tie.close (tie.spec (λ c κs. search rules) (λ c. search rules) (λ c κs. search rules) (λ c κs. search rules) (λ c. search rules) returns)
+pub fill_counts_from_spec : {M : Type 1} → statement M
+fill_counts_from_spec = tie.close (tie.spec (λ c κs. search rules) (λ c. search rules) (λ c κs. search rules) (λ c κs. search rules) (λ c. search rules) returns)

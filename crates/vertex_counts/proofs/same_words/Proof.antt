@@ -29,8 +29,8 @@ returns c =
     let l = c.before.loop in
     same_done a.sheet.now a.base a.t.now l.j a.n l.difference l.invariant.1 (omega arith)
 
-pub same-words-spec : {M : Type 1} → statement M
-same-words-spec =
+pub same_words_spec : {M : Type 1} → statement M
+same_words_spec =
     tie.close
     (tie.spec invariant-loop decreases-loop loop-holds (λ c. omega arith) (λ c. omega arith) (λ c. omega arith) (λ c. omega arith) (λ c. omega arith)
     (λ c. omega arith) (λ c. omega arith) loop-again returns)

@@ -9,8 +9,8 @@ use Rattle.vertex_counts.proofs.sum_successors.Tie as tie
 returns : tie.Need-returns
 returns c = search (successors_summed, arith)
 
-pub sum-successors-spec : {M : Type 1} → statement M
-sum-successors-spec =
+pub sum_successors_spec : {M : Type 1} → statement M
+sum_successors_spec =
     tie.close
     (tie.spec (λ c. search rules) (λ c. omega (arith, rows_within)) (λ c κs. search rules) (λ c. search rules) (λ c. search rules) (λ c κs. search rules)
     (λ c. search rules) (λ c. search rules) returns)

@@ -7,5 +7,5 @@ use Rattle.word.proofs.clear_bit.Tie as tie
 returns : tie.Need-returns
 returns c = rw (one_shl c.args.j c.requires) (and_not_pow 64 c.args.row c.args.j c.ranges.row.fits c.requires)
 
-pub clear-bit-spec : {M : Type 1} → statement M
-clear-bit-spec = tie.close (tie.spec (λ c. search rules) returns)
+pub clear_bit_spec : {M : Type 1} → statement M
+clear_bit_spec = tie.close (tie.spec (λ c. search rules) returns)

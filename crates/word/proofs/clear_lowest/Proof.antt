@@ -8,5 +8,5 @@ use Rattle.word.proofs.clear_lowest.Tie as tie
 returns : tie.Need-returns
 returns c = λ k l. and_lowest c.args.mask k l
 
-pub clear-lowest-spec : {M : Type 1} → statement M
-clear-lowest-spec = tie.close (tie.spec (λ c. search rules) returns)
+pub clear_lowest_spec : {M : Type 1} → statement M
+clear_lowest_spec = tie.close (tie.spec (λ c. search rules) returns)

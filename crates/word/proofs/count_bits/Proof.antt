@@ -8,8 +8,8 @@ use Rattle.word.proofs.count_bits.Tie as tie
 returns : tie.Need-returns
 returns c = bit_count_ones c.args.row c.ranges.row.fits
 
-cast-result : tie.Need-overflow-cast-result
+cast-result : tie.Need-overflow_cast-result
 cast-result c = record { fits = omega (arith, ones-le 64 c.args.row c.ranges.row.fits) }
 
-pub count-bits-spec : {M : Type 1} → statement M
-count-bits-spec = tie.close (tie.spec cast-result returns)
+pub count_bits_spec : {M : Type 1} → statement M
+count_bits_spec = tie.close (tie.spec cast-result returns)

@@ -6,11 +6,11 @@ use Rattle.word.proofs.CountLaws.{highest_leading}
 use Rattle.word.proofs.highest_bit.Statement.{statement}
 use Rattle.word.proofs.highest_bit.Tie as tie
 
-sub-result : tie.Need-overflow-sub-result
+sub-result : tie.Need-overflow_sub-result
 sub-result c = omega (arith, (leading_top 64 c.args.mask c.requires c.ranges.mask.fits).1)
 
 returns : tie.Need-returns
 returns c = highest_leading c.args.mask c.requires c.ranges.mask.fits
 
-pub highest-bit-spec : {M : Type 1} → statement M
-highest-bit-spec = tie.close (tie.spec sub-result (λ c. search rules) returns)
+pub highest_bit_spec : {M : Type 1} → statement M
+highest_bit_spec = tie.close (tie.spec sub-result (λ c. search rules) returns)

@@ -5,11 +5,11 @@ use Rattle.word.proofs.CountLaws.{lowest_trailing}
 use Rattle.word.proofs.lowest_bit.Statement.{statement}
 use Rattle.word.proofs.lowest_bit.Tie as tie
 
-cast-result : tie.Need-overflow-cast-result
+cast-result : tie.Need-overflow_cast-result
 cast-result c = record { fits = omega (arith, trailing_le 64 c.args.mask) }
 
 returns : tie.Need-returns
 returns c = lowest_trailing c.args.mask c.requires c.ranges.mask.fits
 
-pub lowest-bit-spec : {M : Type 1} → statement M
-lowest-bit-spec = tie.close (tie.spec cast-result returns)
+pub lowest_bit_spec : {M : Type 1} → statement M
+lowest_bit_spec = tie.close (tie.spec cast-result returns)

@@ -7,5 +7,5 @@ use Rattle.word.proofs.set_bit.Tie as tie
 returns : tie.Need-returns
 returns c = rw (one_shl c.args.j c.requires) (or_pow c.args.row c.args.j)
 
-pub set-bit-spec : {M : Type 1} → statement M
-set-bit-spec = tie.close (tie.spec (λ c. search rules) returns)
+pub set_bit_spec : {M : Type 1} → statement M
+set_bit_spec = tie.close (tie.spec (λ c. search rules) returns)

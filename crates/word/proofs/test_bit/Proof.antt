@@ -7,5 +7,5 @@ use Rattle.word.proofs.test_bit.Tie as tie
 returns : tie.Need-returns
 returns c = ap (λ x. eqb x 1) (and_mask (c.args.row / 2 ^ c.args.j) 1)
 
-pub test-bit-spec : {M : Type 1} → statement M
-test-bit-spec = tie.close (tie.spec (λ c. search rules) returns)
+pub test_bit_spec : {M : Type 1} → statement M
+test_bit_spec = tie.close (tie.spec (λ c. search rules) returns)

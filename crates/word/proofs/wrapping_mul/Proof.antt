@@ -20,9 +20,9 @@ ruleset halves = (product_fits, high_half, low_half)
 returns : tie.Need-returns
 returns c =
     let given = c.before.before.args in
-    product_wraps given.a given.b _ _ _ _ (and_mask given.a 32) (and_mask given.b 32) c.before.wrapping-add-u64.ensures c.wrapping-add-u642.ensures
+    product_wraps given.a given.b _ _ _ _ (and_mask given.a 32) (and_mask given.b 32) c.before.wrapping_add_u64-cross.ensures c.wrapping_add_u64.ensures
 
-pub wrapping-mul-spec : {M : Type 1} → statement M
-wrapping-mul-spec =
+pub wrapping_mul_spec : {M : Type 1} → statement M
+wrapping_mul_spec =
     tie.close
     (tie.spec (λ c. search halves) (λ c. search halves) (λ c κs. search rules) (λ c. search halves) (λ c κs. search rules) returns)

@@ -7,5 +7,5 @@ use Rattle.word.proofs.wrapping_sub.Tie as tie
 returns : tie.Need-returns
 returns c = search minus_only
 
-pub wrapping-sub-spec : {M : Type 1} → statement M
-wrapping-sub-spec = tie.close (tie.spec (λ c κs. search rules) returns)
+pub wrapping_sub_spec : {M : Type 1} → statement M
+wrapping_sub_spec = tie.close (tie.spec (λ c κs. search rules) returns)

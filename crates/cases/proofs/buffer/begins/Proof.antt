@@ -9,8 +9,8 @@ invariant-loop kept words k₀ k = Unit {0}
 abbrev decreases-loop : tie.decreases-loop
 decreases-loop kept words k₀ k = length words - k
 
-pub begins-spec : {M : Type 1} → statement M
-begins-spec =
+pub begins_spec : {M : Type 1} → statement M
+begins_spec =
     tie.close
     (tie.spec invariant-loop decreases-loop (λ c. search rules) (λ c. search rules) (λ c. search rules) (λ c. search rules) (λ c. search rules)
     (λ c. search rules) (λ c. search rules) (λ c. search rules) (λ c. search rules))

@@ -20,5 +20,5 @@ some-meets-requires c κs =
     let p = c.before.before.before.before.requires in
     (p.shape, p.successors, rw c.set-bit.ensures (set_below _ _ _ p.vertex p.predecessors))
 
-pub closes-cycle-spec : {M : Type 1} → statement M
-closes-cycle-spec = tie.close (tie.spec (λ c κs. search rules) returns (λ c κs. search rules) some-meets-requires returns-2)
+pub closes_cycle_spec : {M : Type 1} → statement M
+closes_cycle_spec = tie.close (tie.spec (λ c κs. search rules) returns (λ c κs. search rules) some-meets-requires returns-2)

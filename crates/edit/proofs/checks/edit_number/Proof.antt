@@ -26,8 +26,8 @@ returns-6 c = search (insert_cycle, not-false)
 returns-7 : tie.Need-returns-7
 returns-7 c = search (insert_good, not-false)
 
-pub edit-number-spec : {M : Type 1} → statement M
-edit-number-spec =
+pub edit_number_spec : {M : Type 1} → statement M
+edit_number_spec =
     tie.close
     (tie.spec (λ c κs. search rules) returns returns-2 (λ c κs. search rules) returns-3 (λ c κs. search rules) returns-4 (λ c κs. search rules)
     returns-5 (λ c κs. search rules) returns-6 returns-7)

@@ -17,6 +17,6 @@ returns-3 c = search (masks_successors, not-true)
 returns-4 : tie.Need-returns-4
 returns-4 c = search (masks_good, not-false)
 
-pub masks-number-spec : {M : Type 1} → statement M
-masks-number-spec =
+pub masks_number_spec : {M : Type 1} → statement M
+masks_number_spec =
     tie.close (tie.spec returns (λ c κs. search rules) returns-2 (λ c κs. search rules) returns-3 returns-4)

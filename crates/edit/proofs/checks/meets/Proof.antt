@@ -49,8 +49,8 @@ loop-again c =
 returns-2 : tie.Need-returns-2 invariant-loop decreases-loop
 returns-2 c = searching_done _ _ _ _ c.before.loop.invariant (omega (arith, eqb-true))
 
-pub meets-spec : {M : Type 1} → statement M
-meets-spec =
+pub meets_spec : {M : Type 1} → statement M
+meets_spec =
     tie.close
     (tie.spec invariant-loop decreases-loop (λ c κs. omega arith) loop-holds lowest-bit-requires (λ c. omega arith) (λ c. omega arith) shared-slice-read-if1 returns
     (λ c κs. omega arith) loop-less loop-again returns-2)

@@ -10,5 +10,5 @@ returns c = refused_there _ _ c.if1.true
 returns-2 : tie.Need-returns-2
 returns-2 c = refused_absent _ _ (omega arith) c.if1.false
 
-pub refused-bits-spec : {M : Type 1} → statement M
-refused-bits-spec = tie.close (tie.spec returns returns-2)
+pub refused_bits_spec : {M : Type 1} → statement M
+refused_bits_spec = tie.close (tie.spec returns returns-2)

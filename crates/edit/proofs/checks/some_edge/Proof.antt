@@ -21,5 +21,5 @@ returns-2 c =
     i.if1.false
     c.refused-bits.ensures
 
-pub some-edge-spec : {M : Type 1} → statement M
-some-edge-spec = tie.close (tie.spec (λ c κs. search rules) returns (λ c. search rules) (λ c. omega (arith, rows_within)) (λ c κs. search rules) returns-2)
+pub some_edge_spec : {M : Type 1} → statement M
+some_edge_spec = tie.close (tie.spec (λ c κs. search rules) returns (λ c. search rules) (λ c. omega (arith, rows_within)) (λ c κs. search rules) returns-2)

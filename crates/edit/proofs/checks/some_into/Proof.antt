@@ -49,8 +49,8 @@ loop-again c =
 returns-2 : tie.Need-returns-2 invariant-loop decreases-loop
 returns-2 c = searching_done _ _ _ _ c.before.loop.invariant (omega (arith, eqb-true))
 
-pub some-into-spec : {M : Type 1} → statement M
-some-into-spec =
+pub some_into_spec : {M : Type 1} → statement M
+some_into_spec =
     tie.close
     (tie.spec invariant-loop decreases-loop loop-holds lowest-bit-requires (λ c. omega arith) shared-slice-read-refused-bits (λ c κs. search rules) (λ c κs. omega arith)
     returns (λ c κs. omega arith) loop-less loop-again returns-2)

@@ -43,7 +43,7 @@ loop-again c =
 returns-2 : tie.Need-returns-2 invariant-loop decreases-loop
 returns-2 c = searching_done _ _ _ _ c.before.loop.invariant (omega (arith, eqb-true))
 
-pub some-meets-spec : {M : Type 1} → statement M
-some-meets-spec =
+pub some_meets_spec : {M : Type 1} → statement M
+some_meets_spec =
     tie.close
     (tie.spec invariant-loop decreases-loop loop-holds lowest-bit-requires meets-requires returns (λ c κs. omega arith) loop-less loop-again returns-2)

@@ -9,8 +9,8 @@ use Rattle.edit.proofs.rows.edit_rows.Tie as tie
 returns : tie.Need-returns
 returns c = search rows_edited_lem
 
-pub edit-rows-spec : {M : Type 1} → statement M
-edit-rows-spec =
+pub edit_rows_spec : {M : Type 1} → statement M
+edit_rows_spec =
     tie.close
     (tie.spec (λ c κs. search rules) (λ c. search rules) (λ c. omega (arith, rows_within)) (λ c κs. search rules) (λ c. search rules) (λ c. omega (arith, rows_within))
     (λ c. search rules) returns)

@@ -54,8 +54,8 @@ same_length c = c.before.loop.invariant.known.long
 returns : tie.Need-returns invariant-loop decreases-loop
 returns c = marking_done _ _ _ _ _ (λ i. (c.before.before.slice-known.given i).fits) _ c.before.loop.rest c.before.loop.invariant (omega (arith, eqb-true))
 
-pub mark-into-spec : {M : Type 1} → statement M
-mark-into-spec =
+pub mark_into_spec : {M : Type 1} → statement M
+mark_into_spec =
     tie.close
     (tie.spec invariant-loop decreases-loop loop-holds lowest-bit-requires mul-mark slice-read-mark (λ c. omega arith) mark-requires mul-sheet slice-write-sheet
     (λ c κs. omega arith) loop-less loop-again same_length returns)

@@ -21,8 +21,8 @@ put-requires c κs =
     let x = c.before.before.before.before.before.before.before.before.before.before.before.before.args.count in
     omega (arith, length-append (decimal x) (10 ∷ []))
 
-pub put-count-spec : {M : Type 1} → statement M
-put-count-spec =
+pub put_count_spec : {M : Type 1} → statement M
+put_count_spec =
     tie.close
     (tie.spec (λ c κs. search rules) (λ c κs. search rules) (λ c κs. search rules) (λ c κs. search rules) (λ c. search rules) put-labelled-requires
     (λ c. search rules) put-requires (λ c. search rules) returns)

@@ -20,5 +20,5 @@ put-requires-2 c κs =
     let a = c.before.before.before.before.before.before.before.args in
     omega (arith, length-append a.label.now (decimal a.x))
 
-pub put-labelled-spec : {M : Type 1} → statement M
-put-labelled-spec = tie.close (tie.spec put-requires put-requires-2 (λ c. search rules) returns)
+pub put_labelled_spec : {M : Type 1} → statement M
+put_labelled_spec = tie.close (tie.spec put-requires put-requires-2 (λ c. search rules) returns)

@@ -30,5 +30,5 @@ put-lines-from-requires c κs = (c.before.before.before.before.before.requires.0
 same_length : tie.Need-same-length invariant-loop decreases-loop
 same_length c = c.before.loop.invariant.long
 
-pub put-lines-spec : {M : Type 1} → statement M
-put-lines-spec = tie.close (tie.spec invariant-loop decreases-loop loop-holds put-lines-from-requires (λ c. omega arith) (λ c. omega arith) loop-again same_length returns)
+pub put_lines_spec : {M : Type 1} → statement M
+put_lines_spec = tie.close (tie.spec invariant-loop decreases-loop loop-holds put-lines-from-requires (λ c. omega arith) (λ c. omega arith) loop-again same_length returns)

@@ -30,5 +30,5 @@ put-pair-requires c κs = (c.before.before.before.before.before.requires.0, omeg
 same_length : tie.Need-same-length invariant-loop decreases-loop
 same_length c = c.before.loop.invariant.long
 
-pub put-lines-from-spec : {M : Type 1} → statement M
-put-lines-from-spec = tie.close (tie.spec invariant-loop decreases-loop loop-holds put-pair-requires (λ c. omega arith) (λ c. omega arith) loop-again same_length returns)
+pub put_lines_from_spec : {M : Type 1} → statement M
+put_lines_from_spec = tie.close (tie.spec invariant-loop decreases-loop loop-holds put-pair-requires (λ c. omega arith) (λ c. omega arith) loop-again same_length returns)

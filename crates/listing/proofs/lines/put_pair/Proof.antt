@@ -18,5 +18,5 @@ returns-2 c = search (pair_put, eqb-false)
 put-count-requires : tie.Need-put-count-requires
 put-count-requires c κs = search (pair_room, eqb-false)
 
-pub put-pair-spec : {M : Type 1} → statement M
-put-pair-spec = tie.close (tie.spec (λ c κs. search rules) returns put-count-requires (λ c. search rules) returns-2)
+pub put_pair_spec : {M : Type 1} → statement M
+put_pair_spec = tie.close (tie.spec (λ c κs. search rules) returns put-count-requires (λ c. search rules) returns-2)

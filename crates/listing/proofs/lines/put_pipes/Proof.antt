@@ -17,5 +17,5 @@ put-labelled-requires c κs = omega (arith, length-append (decimal c.before.befo
 put-requires : tie.Need-put-requires
 put-requires c κs = omega (arith, length-append (decimal c.before.before.before.before.before.before.before.before.args.edges) (10 ∷ []))
 
-pub put-pipes-spec : {M : Type 1} → statement M
-put-pipes-spec = tie.close (tie.spec (λ c. search rules) put-labelled-requires (λ c. search rules) put-requires (λ c. search rules) returns)
+pub put_pipes_spec : {M : Type 1} → statement M
+put_pipes_spec = tie.close (tie.spec (λ c. search rules) put-labelled-requires (λ c. search rules) put-requires (λ c. search rules) returns)

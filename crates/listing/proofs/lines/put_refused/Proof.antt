@@ -29,8 +29,8 @@ put-requires c κs =
     let number = decimal a.number in
     omega (arith, length-append (decimal a.place) (refused_label ++ (number ++ (10 ∷ []))), length-append number (10 ∷ []))
 
-pub put-refused-spec : {M : Type 1} → statement M
-put-refused-spec =
+pub put_refused_spec : {M : Type 1} → statement M
+put_refused_spec =
     tie.close
     (tie.spec (λ c. search rules) put-labelled-requires (λ c. search rules) put-labelled-requires-2 (λ c. search rules) put-requires
     (λ c. search rules) returns)

@@ -12,8 +12,8 @@ decreases-loop from to k vertices t₀ t10 t11 t = length vertices - t
 cast-vertex : tie.Need-overflow-cast-vertex invariant-loop decreases-loop
 cast-vertex c = omega (arith, c.shared-slice-known2.given c.before.before.before.loop.t)
 
-pub path-spec : {M : Type 1} → statement M
-path-spec =
+pub path_spec : {M : Type 1} → statement M
+path_spec =
     tie.close
     (tie.spec invariant-loop decreases-loop (λ c. search rules) (λ c κs. search rules) (λ c. search rules) (λ c κs. search rules) (λ c. search rules)
     (λ c κs. search rules) (λ c. search rules) (λ c κs. search rules) (λ c. search rules) (λ c. search rules) (λ c. search rules)

@@ -9,8 +9,8 @@ invariant-loop n sheet from₀ from = from ≤ n
 abbrev decreases-loop : tie.decreases-loop
 decreases-loop n sheet from₀ from = n - from
 
-pub paths-spec : {M : Type 1} → statement M
-paths-spec =
+pub paths_spec : {M : Type 1} → statement M
+paths_spec =
     tie.close
     (tie.spec invariant-loop decreases-loop (λ c. search rules) (λ c κs. search rules) (λ c. search rules) (λ c. search rules) (λ c. search rules)
     (λ c. search rules))

@@ -9,8 +9,8 @@ invariant-loop n sheet from to k₀ k = Unit {0}
 abbrev decreases-loop : tie.decreases-loop
 decreases-loop n sheet from to k₀ k = 2 ^ 64 - k
 
-pub paths-between-spec : {M : Type 1} → statement M
-paths-between-spec =
+pub paths_between_spec : {M : Type 1} → statement M
+paths_between_spec =
     tie.close
     (tie.spec invariant-loop decreases-loop (λ c. search rules) (λ c κs. search rules) (λ c. search rules) (λ c. search rules) (λ c. search rules)
     (λ c. search rules) (λ c. search rules))

@@ -9,8 +9,8 @@ invariant-loop n sheet from to₀ to = to ≤ n
 abbrev decreases-loop : tie.decreases-loop
 decreases-loop n sheet from to₀ to = n - to
 
-pub paths-from-spec : {M : Type 1} → statement M
-paths-from-spec =
+pub paths_from_spec : {M : Type 1} → statement M
+paths_from_spec =
     tie.close
     (tie.spec invariant-loop decreases-loop (λ c. search rules) (λ c κs. search rules) (λ c. search rules) (λ c. search rules) (λ c. search rules)
     (λ c. search rules))

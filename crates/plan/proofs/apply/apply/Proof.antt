@@ -36,8 +36,8 @@ add-t13 c = omega (arith, c.before.before.before.before.before.before.before.bef
 loop-less : tie.Need-loop-smaller invariant-loop decreases-loop
 loop-less c = search applying_less
 
-pub apply-spec : {M : Type 1} → statement M
-apply-spec =
+pub apply_spec : {M : Type 1} → statement M
+apply_spec =
     tie.close
     (tie.spec invariant-loop decreases-loop loop-holds (λ c κs. search rules) (λ c. search rules) (λ c. search rules) (λ c κs. search rules) same_length returns
     (λ c κs. search rules) add-t13 (λ c. search rules) returns-2 loop-less loop-again)

@@ -32,8 +32,8 @@ copy-words-requires-2 c κs =
     let l = sheet_long _ _ start.requires.0 in
     (omega (arith, l, greatest), omega arith)
 
-pub apply-core-spec : {M : Type 1} → statement M
-apply-core-spec =
+pub apply_core_spec : {M : Type 1} → statement M
+apply_core_spec =
     tie.close
     (tie.spec (λ c κs. search rules) (λ c. search rules) copy-words-requires (λ c κs. search rules) (λ c. search rules) copy-words-requires-2 (λ c. search rules) returns
     (λ c κs. search rules) (λ c κs. search rules) (λ c. search rules) returns-2)

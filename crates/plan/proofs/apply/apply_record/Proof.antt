@@ -14,8 +14,8 @@ returns-2 c = search (record_edge false, left_edge false)
 returns-3 : tie.Need-returns-3
 returns-3 c = search (record_malformed, left_malformed)
 
-pub apply-record-spec : {M : Type 1} → statement M
-apply-record-spec =
+pub apply_record_spec : {M : Type 1} → statement M
+apply_record_spec =
     tie.close
     (tie.spec (λ c. search rules) (λ c κs. search rules) (λ c. search rules) (λ c κs. search rules) (λ c. search rules) (λ c. search rules) returns
     (λ c. search rules) returns-2 returns-3)

@@ -12,5 +12,5 @@ returns-2 c = length_long c.before.before.args.plan.now c.if2.true
 returns-3 : tie.Need-returns-3
 returns-3 c = length_good c.before.before.args.plan.now c.before.if1.false c.if2.false
 
-pub length-number-spec : {M : Type 1} → statement M
-length-number-spec = tie.close (tie.spec returns returns-2 returns-3)
+pub length_number_spec : {M : Type 1} → statement M
+length_number_spec = tie.close (tie.spec returns returns-2 returns-3)

@@ -9,5 +9,5 @@ returns c =
     let plan = c.before.before.before.before.before.args.plan.now in
     read_first _ _ plan _ _ c.before.before.altering-sheet-number.ensures c.before.length-number.ensures _ c.first.ensures
 
-pub read-number-spec : {M : Type 1} → statement M
-read-number-spec = tie.close (tie.spec (λ c κs. search rules) (λ c κs. search rules) (λ c κs. search rules) returns)
+pub read_number_spec : {M : Type 1} → statement M
+read_number_spec = tie.close (tie.spec (λ c κs. search rules) (λ c κs. search rules) (λ c κs. search rules) returns)

@@ -7,6 +7,6 @@ use Rattle.plan.proofs.write.write_edge.Tie as tie
 returns : tie.Need-returns
 returns c = search edge_put
 
-pub write-edge-spec : {M : Type 1} → statement M
-write-edge-spec =
+pub write_edge_spec : {M : Type 1} → statement M
+write_edge_spec =
     tie.close (tie.spec (λ c κs. search rules) (λ c. search rules) (λ c κs. search rules) (λ c. search rules) returns)

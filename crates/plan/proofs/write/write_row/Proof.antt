@@ -40,8 +40,8 @@ same_length c = c.before.loop.invariant.known.long
 returns : tie.Need-returns invariant-loop decreases-loop
 returns c = writing_done _ _ _ _ _ _ _ _ c.before.loop.invariant (omega (arith, eqb-true))
 
-pub write-row-spec : {M : Type 1} → statement M
-write-row-spec =
+pub write_row_spec : {M : Type 1} → statement M
+write_row_spec =
     tie.close
     (tie.spec invariant-loop decreases-loop (λ c. omega arith) (λ c. omega (arith, rows_within)) (λ c κs. omega arith) loop-holds lowest-bit-requires write-edge-requires
     (λ c κs. omega arith) loop-less loop-again same_length returns)

@@ -29,7 +29,7 @@ write-row-requires c κs = (c.before.before.before.before.before.requires.0, ome
 same_length : tie.Need-same-length invariant-loop decreases-loop
 same_length c = c.before.loop.invariant.long
 
-pub write-rows-spec : {M : Type 1} → statement M
-write-rows-spec =
+pub write_rows_spec : {M : Type 1} → statement M
+write_rows_spec =
     tie.close
     (tie.spec invariant-loop decreases-loop loop-holds write-row-requires (λ c. search rules) (λ c. omega arith) loop-again same_length returns)

@@ -30,7 +30,7 @@ returns-2 c = vertex_none _ c.before.before.args.path.now c.before.loop.t c.befo
 cast-if1 : tie.Need-overflow-cast-if1 invariant-loop decreases-loop
 cast-if1 c = omega (arith, c.shared-slice-known.given c.before.before.loop.t)
 
-pub has-no-vertex-spec : {M : Type 1} → statement M
-has-no-vertex-spec =
+pub has_no_vertex_spec : {M : Type 1} → statement M
+has_no_vertex_spec =
     tie.close
     (tie.spec invariant-loop decreases-loop loop-holds (λ c. search rules) cast-if1 returns (λ c. search rules) (λ c. omega arith) loop-again returns-2)

@@ -55,8 +55,8 @@ has-edge-requires c κs =
     let start = c.before.before.before.before.before.before.before.before in
     (start.requires.0, start.requires.1 _ (omega arith), start.requires.1 _ (omega arith))
 
-pub is-broken-spec : {M : Type 1} → statement M
-is-broken-spec =
+pub is_broken_spec : {M : Type 1} → statement M
+is_broken_spec =
     tie.close
     (tie.spec invariant-loop decreases-loop returns returns-2 loop-holds (λ c. omega arith) (λ c. omega arith) cast-has-edge (λ c. omega arith) cast-has-edge-2
     has-edge-requires returns-3 (λ c. search rules) (λ c. omega arith) loop-again returns-4)

@@ -24,6 +24,6 @@ is-broken-requires c κs =
     let shape = c.before.before in
     (shape_of _ _ _ shape.before.shape-number.ensures shape.if1.false, vertices_of _ shape.before.before.before.before.args.path.now ((reflects_false c.before.has-no-vertex.ensures).0 c.if2.false))
 
-pub rank-number-spec : {M : Type 1} → statement M
-rank-number-spec =
+pub rank_number_spec : {M : Type 1} → statement M
+rank_number_spec =
     tie.close (tie.spec (λ c κs. search rules) returns (λ c κs. search rules) returns-2 is-broken-requires returns-3 returns-4)

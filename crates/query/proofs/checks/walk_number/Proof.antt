@@ -20,5 +20,5 @@ returns-4 c = search walk_good
 count-at-requires : tie.Need-count-at-requires
 count-at-requires c κs = vertices_ready _ _ _ _ _ c.before.before.vertices-number.ensures c.before.if1.false
 
-pub walk-number-spec : {M : Type 1} → statement M
-walk-number-spec = tie.close (tie.spec (λ c κs. search rules) returns returns-2 count-at-requires returns-3 returns-4)
+pub walk_number_spec : {M : Type 1} → statement M
+walk_number_spec = tie.close (tie.spec (λ c κs. search rules) returns returns-2 count-at-requires returns-3 returns-4)

@@ -29,7 +29,7 @@ has-edge-requires c κs =
       omega (arith, edge.second, all.second),
     )
 
-pub without-number-spec : {M : Type 1} → statement M
-without-number-spec =
+pub without_number_spec : {M : Type 1} → statement M
+without_number_spec =
     tie.close
     (tie.spec (λ c κs. search rules) returns (λ c κs. search rules) (λ c κs. search rules) (λ c κs. search rules) returns-2 has-edge-requires returns-3 returns-4)

@@ -41,8 +41,8 @@ count-at-requires c κs =
 loop-less : tie.Need-loop-smaller invariant-loop decreases-loop
 loop-less c = search lowest_cleared_lt
 
-pub pass-over-spec : {M : Type 1} → statement M
-pass-over-spec =
+pub pass_over_spec : {M : Type 1} → statement M
+pass_over_spec =
     tie.close
     (tie.spec invariant-loop decreases-loop (λ c. omega arith) (λ c. omega (arith, rows_within)) (λ c κs. omega arith) loop-holds lowest-bit-requires count-at-requires
     (λ c κs. search rules) (λ c κs. omega arith) loop-less loop-again returns)

@@ -50,8 +50,8 @@ pass-over-requires c κs =
     let at = c.before.before.before.loop.invariant in
     (start.requires.0, start.requires.1 _ (omega (arith, at.low)), start.requires.1 _ (omega arith), start.requires.1 _ (omega arith))
 
-pub path-rank-spec : {M : Type 1} → statement M
-path-rank-spec =
+pub path_rank_spec : {M : Type 1} → statement M
+path_rank_spec =
     tie.close
     (tie.spec invariant-loop decreases-loop (λ c. omega arith) (λ c. omega arith) cast-end loop-holds sub-pass-over shared-slice-read-pass-over cast-pass-over
     (λ c. omega arith) cast-pass-over-2 pass-over-requires (λ c κs. search rules) (λ c. search rules) (λ c. omega arith) loop-again returns)

@@ -40,8 +40,8 @@ step-requires c κs =
     let start = c.before.before.before.before in
     (start.requires.0, c.before.before.loop.invariant.vertex, start.requires.2)
 
-pub walk-aside-spec : {M : Type 1} → statement M
-walk-aside-spec =
+pub walk_aside_spec : {M : Type 1} → statement M
+walk_aside_spec =
     tie.close
     (tie.spec invariant-loop decreases-loop loop-holds cast-aside element-write-aside (λ c. omega arith) returns returns-2 step-requires returns-3
     (λ c. omega arith) loop-again returns-4)

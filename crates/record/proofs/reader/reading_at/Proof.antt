@@ -13,8 +13,8 @@ returns-2 c = search reading_at_end
 returns-3 : tie.Need-returns-3
 returns-3 c = search reading_next
 
-pub reading-at-spec : {M : Type 1} → statement M
-reading-at-spec =
+pub reading_at_spec : {M : Type 1} → statement M
+reading_at_spec =
     tie.close
     (tie.spec returns (λ c. search rules) returns-2 (λ c. search rules) (λ c. search rules) (λ c. search rules) (λ c κs. search rules)
     (λ c. search rules) returns-3)

@@ -11,8 +11,8 @@ invariant-loop word decimal₀ k₀ decimal k = k ≤ length word
 abbrev decreases-loop : tie.decreases-loop
 decreases-loop word decimal₀ k₀ decimal k = length word - k
 
-pub decimal-of-spec : {M : Type 1} → statement M
-decimal-of-spec =
+pub decimal_of_spec : {M : Type 1} → statement M
+decimal_of_spec =
     tie.close
     (tie.spec invariant-loop decreases-loop (λ c. search rules) (λ c. search rules) (λ c. search rules) (λ c κs. search rules) (λ c. search rules)
     (λ c. search rules) (λ c. search rules) (λ c. search rules))

@@ -15,8 +15,8 @@ decreases-loop bytes k₀ t4 t5 k = length bytes - k
 cast-print-decimal : tie.Need-overflow-cast-print-decimal invariant-loop decreases-loop
 cast-print-decimal c = omega (arith, c.shared-slice-known2.given c.before.before.before.loop.k)
 
-pub print-bytes-spec : {M : Type 1} → statement M
-print-bytes-spec =
+pub print_bytes_spec : {M : Type 1} → statement M
+print_bytes_spec =
     tie.close
     (tie.spec invariant-loop decreases-loop (λ c. search rules) (λ c κs. search rules) (λ c. search rules) (λ c. search rules) (λ c. search rules)
     cast-print-decimal (λ c κs. search rules) (λ c. search rules) (λ c. search rules) (λ c. search rules) (λ c. search rules)

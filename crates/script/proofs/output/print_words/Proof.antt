@@ -11,8 +11,8 @@ invariant-loop words k₀ t4 t5 k = k ≤ length words
 abbrev decreases-loop : tie.decreases-loop
 decreases-loop words k₀ t4 t5 k = length words - k
 
-pub print-words-spec : {M : Type 1} → statement M
-print-words-spec =
+pub print_words_spec : {M : Type 1} → statement M
+print_words_spec =
     tie.close
     (tie.spec invariant-loop decreases-loop (λ c. search rules) (λ c κs. search rules) (λ c. search rules) (λ c. search rules) (λ c. search rules)
     (λ c. search rules) (λ c κs. search rules) (λ c. search rules) (λ c. search rules) (λ c. search rules) (λ c. search rules)

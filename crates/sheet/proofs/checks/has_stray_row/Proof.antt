@@ -27,8 +27,8 @@ loop-again c = (omega arith, search (stray_more, not-false))
 returns-2 : tie.Need-returns-2 invariant-loop decreases-loop
 returns-2 c = stray_none _ c.before.before.before.args.sheet.now _ c.before.loop.invariant.1 (omega arith)
 
-pub has-stray-row-spec : {M : Type 1} → statement M
-has-stray-row-spec =
+pub has_stray_row_spec : {M : Type 1} → statement M
+has_stray_row_spec =
     tie.close
     (tie.spec invariant-loop decreases-loop loop-holds (λ c. omega arith) (λ c. omega (arith, rows_within)) (λ c κs. search rules) returns (λ c. omega arith) (λ c. omega arith)
     loop-again returns-2)

@@ -17,5 +17,5 @@ returns-3 c = search (shape_long, arith)
 returns-4 : tie.Need-returns-4
 returns-4 c = search (shape_good, arith)
 
-pub shape-number-spec : {M : Type 1} → statement M
-shape-number-spec = tie.close (tie.spec returns returns-2 (λ c κs. search rules) returns-3 returns-4)
+pub shape_number_spec : {M : Type 1} → statement M
+shape_number_spec = tie.close (tie.spec returns returns-2 (λ c κs. search rules) returns-3 returns-4)

@@ -12,5 +12,5 @@ returns-2 c = search vertex_to
 returns-3 : tie.Need-returns-3
 returns-3 c = search vertex_good
 
-pub vertex-number-spec : {M : Type 1} → statement M
-vertex-number-spec = tie.close (tie.spec returns returns-2 returns-3)
+pub vertex_number_spec : {M : Type 1} → statement M
+vertex_number_spec = tie.close (tie.spec returns returns-2 returns-3)

@@ -10,5 +10,5 @@ returns c = search shape_refused
 returns-2 : tie.Need-returns-2
 returns-2 c = search vertices_then
 
-pub vertices-number-spec : {M : Type 1} → statement M
-vertices-number-spec = tie.close (tie.spec (λ c κs. search rules) returns (λ c κs. search rules) returns-2)
+pub vertices_number_spec : {M : Type 1} → statement M
+vertices_number_spec = tie.close (tie.spec (λ c κs. search rules) returns (λ c κs. search rules) returns-2)

@@ -27,8 +27,8 @@ same_length c = c.before.loop.invariant.1
 returns : tie.Need-returns invariant-loop decreases-loop
 returns c = puts_done _ _ _ _ c.before.loop.i c.before.before.before.args.n c.before.loop.invariant.2 (omega arith)
 
-pub diagonal-spec : {M : Type 1} → statement M
-diagonal-spec =
+pub diagonal_spec : {M : Type 1} → statement M
+diagonal_spec =
     tie.close
     (tie.spec invariant-loop decreases-loop loop-holds (λ c κs. omega arith) (λ c. omega arith) (λ c. omega arith) (λ c. omega arith) (λ c. omega arith) loop-again
     same_length returns)

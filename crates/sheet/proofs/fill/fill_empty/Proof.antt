@@ -7,5 +7,5 @@ use Rattle.sheet.proofs.fill.fill_empty.Tie as tie
 returns : tie.Need-returns
 returns c = search empty_filled
 
-pub fill-empty-spec : {M : Type 1} → statement M
-fill-empty-spec = tie.close (tie.spec (λ c κs. search rules) (λ c κs. search rules) (λ c. search rules) returns)
+pub fill_empty_spec : {M : Type 1} → statement M
+fill_empty_spec = tie.close (tie.spec (λ c κs. search rules) (λ c κs. search rules) (λ c. search rules) returns)

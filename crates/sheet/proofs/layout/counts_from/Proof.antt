@@ -13,5 +13,5 @@ returns c =
       small = omega (arith, counts_le _ c.requires.0, row_counts _ _ c.requires.1);
     }
 
-pub counts-from-spec : {M : Type 1} → statement M
-counts-from-spec = tie.close (tie.spec (λ c. omega (arith, counts_le _ c.requires.0, row_counts _ _ c.requires.1)) (λ c. omega (arith, counts_le _ c.requires.0, row_counts _ _ c.requires.1)) returns)
+pub counts_from_spec : {M : Type 1} → statement M
+counts_from_spec = tie.close (tie.spec (λ c. omega (arith, counts_le _ c.requires.0, row_counts _ _ c.requires.1)) (λ c. omega (arith, counts_le _ c.requires.0, row_counts _ _ c.requires.1)) returns)

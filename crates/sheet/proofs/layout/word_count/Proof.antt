@@ -8,5 +8,5 @@ returns : tie.Need-returns
 unfolding size
 returns c = search rules
 
-pub word-count-spec : {M : Type 1} → statement M
-word-count-spec = tie.close (tie.spec (λ c κs. search rules) returns)
+pub word_count_spec : {M : Type 1} → statement M
+word_count_spec = tie.close (tie.spec (λ c κs. search rules) returns)

@@ -41,8 +41,8 @@ same_length c = c.before.loop.invariant.known.long
 returns : tie.Need-returns invariant-loop decreases-loop
 returns c = summing_done plus_wraps _ _ _ _ _ _ _ _ c.before.loop.invariant (omega (arith, eqb-true))
 
-pub add-counts-spec : {M : Type 1} → statement M
-add-counts-spec =
+pub add_counts_spec : {M : Type 1} → statement M
+add_counts_spec =
     tie.close
     (tie.spec invariant-loop decreases-loop loop-holds lowest-bit-requires counts-from-requires (λ c. omega arith) add-words-requires (λ c κs. omega arith) loop-less loop-again
     same_length returns)

@@ -29,8 +29,8 @@ same_length c = c.before.loop.invariant.1
 returns : tie.Need-returns invariant-loop decreases-loop
 returns c = puts_done _ _ _ _ c.before.loop.j _ c.before.loop.invariant.2 (omega arith)
 
-pub add-words-spec : {M : Type 1} → statement M
-add-words-spec =
+pub add_words_spec : {M : Type 1} → statement M
+add_words_spec =
     tie.close
     (tie.spec invariant-loop decreases-loop loop-holds (λ c. omega arith) (λ c. omega arith) (λ c. omega arith) (λ c. omega arith) (λ c. omega arith)
     (λ c κs. search rules) (λ c. omega arith) (λ c. omega arith) (λ c. omega arith) (λ c. omega arith) loop-again same_length returns)

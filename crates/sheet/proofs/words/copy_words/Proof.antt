@@ -26,8 +26,8 @@ same_length c = c.before.loop.invariant.1
 returns : tie.Need-returns invariant-loop decreases-loop
 returns c = puts_done _ _ _ _ c.before.loop.j _ c.before.loop.invariant.2 (omega arith)
 
-pub copy-words-spec : {M : Type 1} → statement M
-copy-words-spec =
+pub copy_words_spec : {M : Type 1} → statement M
+copy_words_spec =
     tie.close
     (tie.spec invariant-loop decreases-loop loop-holds (λ c. omega arith) (λ c. omega arith) (λ c. omega arith) (λ c. omega arith) (λ c. omega arith)
     (λ c. omega arith) (λ c. omega arith) loop-again same_length returns)

@@ -32,8 +32,8 @@ loop-again c = (omega arith, search set_bits_more)
 returns : tie.Need-returns invariant-loop decreases-loop
 returns c = set_bits_done _ c.before.loop.i _ _ c.before.loop.invariant.1 (omega arith)
 
-pub count-set-bits-spec : {M : Type 1} → statement M
-count-set-bits-spec =
+pub count_set_bits_spec : {M : Type 1} → statement M
+count_set_bits_spec =
     tie.close
     (tie.spec invariant-loop decreases-loop loop-holds (λ c. omega arith) (λ c. omega (arith, rows_within)) (λ c κs. search rules) add_total (λ c. omega arith) (λ c. omega arith)
     loop-again returns)

@@ -7,5 +7,5 @@ use Rattle.sheet.proofs.words.sum_counts.Tie as tie
 returns : tie.Need-returns
 returns c = search counts_summed
 
-pub sum-counts-spec : {M : Type 1} → statement M
-sum-counts-spec = tie.close (tie.spec (λ c. search rules) (λ c κs. search rules) returns)
+pub sum_counts_spec : {M : Type 1} → statement M
+sum_counts_spec = tie.close (tie.spec (λ c. search rules) (λ c κs. search rules) returns)
