@@ -1,13 +1,13 @@
 -- The order of paths: the first place where they differ decides, and it is a strict total order on the paths between two vertices.
 -- Assumes nothing.
-use mathlib.Core.Path.{◌≡◌, refl, sym, ap₂, ◌∙◌}
+use mathlib.Core.Path.{◌≡◌, refl, sym, subst, ap₂, ◌∙◌}
 use mathlib.Core.Logic.{◌⊎◌, inl, inr, ◌↔◌}
 use mathlib.Core.List.{List, [], ◌∷◌}
 use Prim.Native.Nat.{ℕ, zero, suc, ◌<◌}
 use native.Mathlib.Decide.{ℕ_discrete, dec_lt}
 use native.Mathlib.Omega.{arith}
 use lib.ListN.{get_or}
-use Rattle.graph.specs.Graph.{Distinct, Walk, IsPath}
+use Rattle.graph.specs.Graph.{◌is_in◌, Distinct, Walk, IsPath}
 use Rattle.graph.proofs.Walks.{walk_end}
 use Rattle.query_theory.specs.Before.{Before, LowerAt}
 
@@ -57,8 +57,8 @@ module _ (n : ℕ) (w : ℕ → ℕ → ℕ) where
   -- of two walks with the same ends neither stops where the other goes on: that one would come to their end twice
   walk_total : (i : ℕ) (l m : List ℕ) (j : ℕ) → Walk n w i l j → Walk n w i m j → Distinct (i ∷ l) → Distinct (i ∷ m) → (l ≡ m) ⊎ (Before l m ⊎ Before m l)
   walk_total i [] [] j p q d e = inl refl
-  walk_total i [] (c ∷ m) j p q d e = absurd (e.0 (rw p (walk_end n w c m j q.2)))
-  walk_total i (b ∷ l) [] j p q d e = absurd (d.0 (rw q (walk_end n w b l j p.2)))
+  walk_total i [] (c ∷ m) j p q d e = absurd (e.0 (subst (λ (x : ℕ). x is_in (c ∷ m)) (sym p) (walk_end n w c m j q.2)))
+  walk_total i (b ∷ l) [] j p q d e = absurd (d.0 (subst (λ (x : ℕ). x is_in (b ∷ l)) (sym q) (walk_end n w b l j p.2)))
   walk_total i (b ∷ l) (c ∷ m) j p q d e =
       elim (ℕ_discrete b c) [
         | yes s ↦ elim (walk_total b l m j p.2 (rw s q.2) d.1 (rw s e.1)) [

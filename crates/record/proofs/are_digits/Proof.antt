@@ -26,13 +26,13 @@ module _ (j : tie.Joined2) where
   second : j.if2.if3 ≡ (j.before.if1.if2 && ones_low)
   second = ⊎_elim (λ w. and_then _ _ _ w.0.taken w.1) (λ w. and_else _ _ _ w.0.left w.1) j.if2.came
 
-returns : tie.Need-returns
+returns : tie.Need-returns-then-ones-ge48
 unfolding are_digits
-returns c = let j = c.before in four_last (tens-low j) (tens-high j) (ones_low j) _ _ _ (first j) (second j) c.if3.true
+returns c = let j = c.before in four_last (tens-low j) (tens-high j) (ones_low j) _ _ _ (first j) (second j) c.if-ones-ge48.true
 
-returns-2 : tie.Need-returns-2
+returns-2 : tie.Need-returns-else-ones-ge48
 unfolding are_digits
-returns-2 c = let j = c.before in four_none (tens-low j) (tens-high j) (ones_low j) _ _ _ (first j) (second j) c.if3.false
+returns-2 c = let j = c.before in four_none (tens-low j) (tens-high j) (ones_low j) _ _ _ (first j) (second j) c.if-ones-ge48.false
 
 pub are_digits_spec : {M : Type 1} → statement M
 are_digits_spec = tie.close (tie.spec returns returns-2)

@@ -4,10 +4,10 @@ use Rattle.record.proofs.CodecLaws.{tens_digit, ones_digit}
 use Rattle.record.proofs.from_digits.Statement.{statement}
 use Rattle.record.proofs.from_digits.Tie as tie
 
-sub-result : tie.Need-overflow-sub-result
+sub-result : tie.Need-overflow_sub-result
 sub-result c = search tens_digit
 
-sub-result-2 : tie.Need-overflow-sub-result-2
+sub-result-2 : tie.Need-overflow_sub-result-2
 sub-result-2 c = search ones_digit
 
 pub from_digits_spec : {M : Type 1} → statement M

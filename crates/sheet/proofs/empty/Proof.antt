@@ -9,24 +9,24 @@ use Rattle.sheet_theory.proofs.Refusals.{empty_first}
 use Rattle.sheet.proofs.empty.Statement.{statement}
 use Rattle.sheet.proofs.empty.Tie as tie
 
-returns : tie.Need-returns
+returns : tie.Need-returns-then-number-ne0
 returns c =
-    let a = c.before.before.before.before.before.args in
+    let a = c.args in
     let n = a.n in
     let s = lent a.sheet.now in
-    refused_as (empty_conditions n s) _ _ c.before.before.altering-number.ensures (empty_first n s) (empty_lent n) s 0 _ c.before.if1.true c.refused.ensures
+    refused_as (empty_conditions n s) _ _ c.altering_number-number.ensures (empty_first n s) (empty_lent n) s 0 _ c.if-number-ne0.true c.refused.ensures
 
-fill-empty-requires : tie.Need-fill-empty-requires
-fill-empty-requires c κs = shape_of _ _ _ c.before.before.altering-number.ensures c.before.if1.false
+fill-empty-requires : tie.Need-fill_empty-requires
+fill-empty-requires c κs = shape_of _ _ _ c.altering_number-number.ensures c.if-number-ne0.false
 
-returns-2 : tie.Need-returns-2
+returns-2 : tie.Need-returns
 returns-2 c =
-    let f = c.before.before.before in
-    let a = f.before.before.before.before.before.before.args in
+    let f = c in
+    let a = f.args in
     let n = a.n in
     let s = lent a.sheet.now in
-    accepted_as (empty_conditions n s) _ _ f.before.before.before.altering-number.ensures (empty_first n s) (empty_lent n) s _ 0 _ f.before.before.if1.false
-    c.accepted.ensures (ap lent f.fill-empty.ensures)
+    accepted_as (empty_conditions n s) _ _ f.altering_number-number.ensures (empty_first n s) (empty_lent n) s _ 0 _ f.if-number-ne0.false
+    c.accepted.ensures (ap lent f.fill_empty.ensures)
 
 pub empty_spec : {M : Type 1} → statement M
 empty_spec =

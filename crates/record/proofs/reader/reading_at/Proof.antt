@@ -4,13 +4,13 @@ use Rattle.record.proofs.ReaderLaws.{reading_past, reading_at_end, reading_next}
 use Rattle.record.proofs.reader.reading_at.Statement.{statement}
 use Rattle.record.proofs.reader.reading_at.Tie as tie
 
-returns : tie.Need-returns
+returns : tie.Need-returns-then-plan-k
 returns c = search reading_past
 
-returns-2 : tie.Need-returns-2
+returns-2 : tie.Need-returns-then-start-plan
 returns-2 c = search reading_at_end
 
-returns-3 : tie.Need-returns-3
+returns-3 : tie.Need-returns
 returns-3 c = search reading_next
 
 pub reading_at_spec : {M : Type 1} → statement M

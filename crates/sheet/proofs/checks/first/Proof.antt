@@ -3,10 +3,10 @@ use Rattle.answer.proofs.AnswerLaws.{first_refuses, first_then}
 use Rattle.sheet.proofs.checks.first.Statement.{statement}
 use Rattle.sheet.proofs.checks.first.Tie as tie
 
-returns : tie.Need-returns
+returns : tie.Need-returns-then-number-ne0
 returns c = search first_refuses
 
-returns-2 : tie.Need-returns-2
+returns-2 : tie.Need-returns
 returns-2 c = search first_then
 
 pub first_spec : {M : Type 1} → statement M

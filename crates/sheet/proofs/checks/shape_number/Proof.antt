@@ -5,16 +5,16 @@ use Rattle.sheet_theory.proofs.ShapeLaws.{shape_none, shape_many, shape_long, sh
 use Rattle.sheet.proofs.checks.shape_number.Statement.{statement}
 use Rattle.sheet.proofs.checks.shape_number.Tie as tie
 
-returns : tie.Need-returns
-returns c = shape_none _ _ c.if1.true
+returns : tie.Need-returns-then-n-lt1
+returns c = shape_none _ _ c.if-n-lt1.true
 
-returns-2 : tie.Need-returns-2
-returns-2 c = shape_many _ _ c.if2.true
+returns-2 : tie.Need-returns-then-n-gt-VERTICES
+returns-2 c = shape_many _ _ c.if-n-gt-VERTICES.true
 
-returns-3 : tie.Need-returns-3
+returns-3 : tie.Need-returns-then-sheet-word_count
 returns-3 c = search (shape_long, arith)
 
-returns-4 : tie.Need-returns-4
+returns-4 : tie.Need-returns
 returns-4 c = search (shape_good, arith)
 
 pub shape_number_spec : {M : Type 1} → statement M

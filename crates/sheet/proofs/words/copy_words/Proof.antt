@@ -8,23 +8,23 @@ use Rattle.sheet.proofs.FillLaws.{puts_none, puts_more, puts_done}
 use Rattle.sheet.proofs.words.copy_words.Statement.{statement}
 use Rattle.sheet.proofs.words.copy_words.Tie as tie
 
-abbrev invariant-loop : tie.invariant-loop
+abbrev invariant-loop : tie.invariant-loop-j
 invariant-loop count from to₀ base j₀ to j = (j ≤ count) × (length to ≡ length to₀) × (to ≡ over to₀ base (λ (k : ℕ). get_or from k 0) j)
 
-abbrev decreases-loop : tie.decreases-loop
+abbrev decreases-loop : tie.decreases-loop-j
 decreases-loop count from to₀ base j₀ to j = count - j
 
-loop-holds : tie.Need-loop-init invariant-loop decreases-loop
+loop-holds : tie.Need-loop-j-init invariant-loop decreases-loop
 loop-holds c = (omega arith, refl, puts_none _ _ _)
 
-loop-again : tie.Need-loop-preserved invariant-loop decreases-loop
-loop-again c = (omega arith, simp length-set (omega arith), puts_more _ _ _ _ _ _ _ c.before.before.loop.invariant.2 refl refl)
+loop-again : tie.Need-loop-j-preserved invariant-loop decreases-loop
+loop-again c = (omega arith, simp length-set (omega arith), puts_more _ _ _ _ _ _ _ c.before.before.loop-j.invariant.2 refl refl)
 
-same_length : tie.Need-same-length invariant-loop decreases-loop
-same_length c = c.before.loop.invariant.1
+same_length : tie.Need-shape_of-to invariant-loop decreases-loop
+same_length c = c.before.loop-j.invariant.1
 
 returns : tie.Need-returns invariant-loop decreases-loop
-returns c = puts_done _ _ _ _ c.before.loop.j _ c.before.loop.invariant.2 (omega arith)
+returns c = puts_done _ _ _ _ c.before.loop-j.j _ c.before.loop-j.invariant.2 (omega arith)
 
 pub copy_words_spec : {M : Type 1} → statement M
 copy_words_spec =
