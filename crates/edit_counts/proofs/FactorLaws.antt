@@ -71,13 +71,14 @@ module _ (c x y F T : ℕ) where
       minus_congruent _ (c + F * T) (x * T + F * y) (mod-lt _ (pow_pos 64))
       (made (2 ^ 64) c (z * T) (F % 2 ^ 64 * w) (x * T) (F * y) (F * T) p (congruent_add (2 ^ 64) (F % 2 ^ 64 * w) (F * y) (F * w) (F * y) r refl ∙ q))
 
+  reduced : (z : ℕ) → Congruent (2 ^ 64) (z * (T % 2 ^ 64)) (z * T)
+  reduced z = congruent_mul (2 ^ 64) z (T % 2 ^ 64) T (mod-mod T (2 ^ 64))
+
   -- T may be reduced
   pub edited_mod : (inserts : Bool) → edited_by inserts c x y F (T % 2 ^ 64) ≡ edited_by inserts c x y F T
   unfolding edited_by
-  edited_mod inserts =
-      let p : Congruent (2 ^ 64) (x * (T % 2 ^ 64)) (x * T) = congruent_mul (2 ^ 64) x (T % 2 ^ 64) T (mod-mod T (2 ^ 64)) in
-      let q : Congruent (2 ^ 64) (F * (T % 2 ^ 64)) (F * T) = congruent_mul (2 ^ 64) F (T % 2 ^ 64) T (mod-mod T (2 ^ 64)) in
-      elim inserts [ true ↦ omega arith | false ↦ minus_cong _ _ _ _ (omega arith) (omega arith) ]
+  edited_mod true = omega (arith, reduced x, reduced F)
+  edited_mod false = minus_cong _ _ _ _ (omega (arith, reduced F)) (omega (arith, reduced x))
 
 -- without predecessors every F is 0
 from_none : (n : ℕ) (C : ℕ → ℕ → ℕ) (i : ℕ) → from_sum n C (bit 0) i ≡ 0

@@ -10,28 +10,28 @@ use Rattle.edit_counts.proofs.EditedCounts.{multiple_none, multiple_more}
 use Rattle.edit_counts.proofs.add_multiple.Statement.{statement}
 use Rattle.edit_counts.proofs.add_multiple.Tie as tie
 
-abbrev invariant-loop : tie.invariant-loop
+abbrev invariant-loop : tie.invariant-loop-j
 invariant-loop n sheet₀ base x t j₀ sheet j = (j ≤ n) × (length sheet ≡ length sheet₀) × (sheet ≡ with_multiple j sheet₀ base x t)
 
-abbrev decreases-loop : tie.decreases-loop
+abbrev decreases-loop : tie.decreases-loop-j
 decreases-loop n sheet₀ base x t j₀ sheet j = n - j
 
-returns : tie.Need-returns invariant-loop decreases-loop
+returns : tie.Need-returns-then-x-eq0 invariant-loop decreases-loop
 returns c =
-    let a = c.before.before.args in
-    multiple_none _ _ _ a.t.now a.n (omega arith) (λ j q. omega (arith, c.before.slice-known.given (a.base + j))) c.if1.true
+    let a = c.args in
+    multiple_none _ _ _ a.t.now a.n (omega arith) (λ j q. omega (arith, c.slice_known-1.given (a.base + j))) c.if-x-eq0.true
 
-loop-holds : tie.Need-loop-init invariant-loop decreases-loop
+loop-holds : tie.Need-loop-j-init invariant-loop decreases-loop
 loop-holds c = (omega arith, refl, puts_none _ _ _)
 
-loop-again : tie.Need-loop-preserved invariant-loop decreases-loop
+loop-again : tie.Need-loop-j-preserved invariant-loop decreases-loop
 loop-again c = (omega arith, simp length-set (omega arith), search multiple_more)
 
-same_length : tie.Need-same-length invariant-loop decreases-loop
-same_length c = c.before.loop.invariant.1
+same_length : tie.Need-shape_of-sheet invariant-loop decreases-loop
+same_length c = c.loop-j.invariant.1
 
-returns-2 : tie.Need-returns-2 invariant-loop decreases-loop
-returns-2 c = puts_done _ _ _ _ c.before.loop.j _ c.before.loop.invariant.2 (omega arith)
+returns-2 : tie.Need-returns invariant-loop decreases-loop
+returns-2 c = puts_done _ _ _ _ c.loop-j.j _ c.loop-j.invariant.2 (omega arith)
 
 pub add_multiple_spec : {M : Type 1} → statement M
 add_multiple_spec =

@@ -7,35 +7,35 @@ use Rattle.edit_counts.proofs.EditedCounts.{Editing, editing_start, editing_shap
 use Rattle.edit_counts.proofs.edit_both.Statement.{statement}
 use Rattle.edit_counts.proofs.edit_both.Tie as tie
 
-abbrev invariant-loop : tie.invariant-loop
+abbrev invariant-loop : tie.invariant-loop-i
 invariant-loop inserts n sheet₀ v predecessors t u i₀ sheet i = (i ≤ n) × (Editing inserts n sheet₀ v predecessors t i sheet)
 
-abbrev decreases-loop : tie.decreases-loop
+abbrev decreases-loop : tie.decreases-loop-i
 decreases-loop inserts n sheet₀ v predecessors t u i₀ sheet i = n - i
 
-loop-holds : tie.Need-loop-init invariant-loop decreases-loop
+loop-holds : tie.Need-loop-i-init invariant-loop decreases-loop
 loop-holds c = (omega arith, editing_start _ _ _ _ _ _)
 
-edit-counts-from-requires : tie.Need-edit-counts-from-requires invariant-loop decreases-loop
+edit-counts-from-requires : tie.Need-edit_counts_from-requires invariant-loop decreases-loop
 edit-counts-from-requires c κs =
-    let l = c.before.before.before in
-    let pre = l.before.before.before.before.before.requires in
-    (editing_shape _ _ _ _ _ _ pre.0 _ _ l.loop.invariant.1, omega arith, pre.1, pre.2)
+    let l = c.before in
+    let pre = l.requires in
+    (editing_shape _ _ _ _ _ _ pre.0 _ _ l.loop-i.invariant.1, omega arith, pre.1, pre.2)
 
-loop-again : tie.Need-loop-preserved invariant-loop decreases-loop
+loop-again : tie.Need-loop-i-preserved invariant-loop decreases-loop
 loop-again c =
-    let l = c.before.before.before.before.before.before in
-    let pre = l.before.before.before.before.before.requires in (
+    let l = c.before in
+    let pre = l.requires in (
       omega arith,
-      editing_both _ _ _ _ _ _ pre.0 _ _ l.loop.invariant.1 (omega arith) _ _ _ (rw (length-replicate {A = ℕ} 64 0) (omega arith))
-          l.before.from-factors.ensures c.before.before.edit-counts-from.ensures,
+      editing_both _ _ _ _ _ _ pre.0 _ _ l.loop-i.invariant.1 (omega arith) _ _ _ (rw (length-replicate {A = ℕ} 64 0) (omega arith))
+          l.from_factors.ensures c.edit_counts_from.ensures,
     )
 
-same_length : tie.Need-same-length invariant-loop decreases-loop
-same_length c = c.before.loop.invariant.1.long
+same_length : tie.Need-shape_of-sheet invariant-loop decreases-loop
+same_length c = c.loop-i.invariant.1.long
 
 returns : tie.Need-returns invariant-loop decreases-loop
-returns c = let l = c.before.loop in editing_all _ _ _ _ _ _ _ _ l.invariant.1 (omega arith)
+returns c = let l = c.loop-i in editing_all _ _ _ _ _ _ _ _ l.invariant.1 (omega arith)
 
 pub edit_both_spec : {M : Type 1} → statement M
 edit_both_spec =

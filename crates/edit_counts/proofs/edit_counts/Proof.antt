@@ -4,10 +4,10 @@ use Rattle.edit_counts.proofs.EditedCounts.{counts_edited_lem}
 use Rattle.edit_counts.proofs.edit_counts.Statement.{statement}
 use Rattle.edit_counts.proofs.edit_counts.Tie as tie
 
-returns : tie.Need-returns
+returns : tie.Need-returns-then-predecessors-eq0
 returns c = search counts_edited_lem
 
-returns-2 : tie.Need-returns-2
+returns-2 : tie.Need-returns
 returns-2 c = search counts_edited_lem
 
 pub edit_counts_spec : {M : Type 1} → statement M

@@ -10,37 +10,37 @@ use Rattle.edit_counts.proofs.EditedCounts.{from_more, from_done}
 use Rattle.edit_counts.proofs.sum_from.Statement.{statement}
 use Rattle.edit_counts.proofs.sum_from.Tie as tie
 
-abbrev invariant-loop : tie.invariant-loop
+abbrev invariant-loop : tie.invariant-loop-rest
 invariant-loop n sheet i mask base sum₀ rest₀ sum rest = Adding n mask rest (count_at n sheet i) sum
 
-abbrev decreases-loop : tie.decreases-loop
+abbrev decreases-loop : tie.decreases-loop-rest
 decreases-loop n sheet i mask base sum₀ rest₀ sum rest = rest
 
-loop-holds : tie.Need-loop-init invariant-loop decreases-loop
+loop-holds : tie.Need-loop-rest-init invariant-loop decreases-loop
 loop-holds c = adding_start _ _ _ (omega arith)
 
-lowest-bit-requires : tie.Need-lowest-bit-requires invariant-loop decreases-loop
+lowest-bit-requires : tie.Need-lowest_bit-k-requires invariant-loop decreases-loop
 lowest-bit-requires c κs = omega (arith, eqb-false)
 
-add-wrapping-add : tie.Need-overflow-add-wrapping-add invariant-loop decreases-loop
-add-wrapping-add c = omega (arith, lowest_lt _ _ _ c.lowest-bit.ensures c.before.before.loop.invariant.below)
+add-wrapping-add : tie.Need-overflow_add-base invariant-loop decreases-loop
+add-wrapping-add c = omega (arith, lowest_lt _ _ _ c.lowest_bit-k.ensures c.loop-rest.invariant.below)
 
-mul-wrapping-add : tie.Need-overflow-mul-wrapping-add invariant-loop decreases-loop
-mul-wrapping-add c = omega (arith, lowest_lt _ _ _ c.lowest-bit.ensures c.before.before.loop.invariant.below)
+mul-wrapping-add : tie.Need-offset_bounds-sheet-base invariant-loop decreases-loop
+mul-wrapping-add c = omega (arith, lowest_lt _ _ _ c.lowest_bit-k.ensures c.loop-rest.invariant.below)
 
-shared-slice-read-wrapping-add : tie.Need-shared-slice-read-wrapping-add invariant-loop decreases-loop
-shared-slice-read-wrapping-add c = omega (arith, lowest_lt _ _ _ c.before.lowest-bit.ensures c.before.before.before.loop.invariant.below)
+shared-slice-read-wrapping-add : tie.Need-bounds-sheet-base invariant-loop decreases-loop
+shared-slice-read-wrapping-add c = omega (arith, lowest_lt _ _ _ c.lowest_bit-k.ensures c.loop-rest.invariant.below)
 
-loop-less : tie.Need-loop-smaller invariant-loop decreases-loop
-loop-less c = lowest_cleared_lt _ _ _ c.before.before.before.lowest-bit.ensures c.clear-lowest.ensures
+loop-less : tie.Need-loop-rest-smaller invariant-loop decreases-loop
+loop-less c = lowest_cleared_lt _ _ _ c.lowest_bit-k.ensures c.clear_lowest-rest.ensures
 
-loop-again : tie.Need-loop-preserved invariant-loop decreases-loop
+loop-again : tie.Need-loop-rest-preserved invariant-loop decreases-loop
 loop-again c = search from_more
 
 returns : tie.Need-returns invariant-loop decreases-loop
 returns c =
-    let a = c.before.before.before.before.args in
-    from_done a.n a.sheet.now a.i a.mask _ _ c.before.loop.invariant (omega (arith, eqb-true))
+    let a = c.args in
+    from_done a.n a.sheet.now a.i a.mask _ _ c.loop-rest.invariant (omega (arith, eqb-true))
 
 pub sum_from_spec : {M : Type 1} → statement M
 sum_from_spec =

@@ -5,7 +5,7 @@ use Rattle.order.proofs.take_away.Statement.{statement}
 use Rattle.order.proofs.take_away.Tie as tie
 
 returns : tie.Need-returns
-returns c = (rw c.clear-bit.ensures refl, refl)
+returns c = (rw c.clear_bit.ensures refl, refl)
 
 pub take_away_spec : {M : Type 1} → statement M
 take_away_spec = tie.close (tie.spec (λ c. search rules) (λ c. search rules) (λ c κs. search rules) (λ c. search rules) returns)

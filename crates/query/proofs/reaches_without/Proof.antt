@@ -5,21 +5,21 @@ use Rattle.query_theory.proofs.WithoutLaws.{without_refused, without_no, without
 use Rattle.query.proofs.reaches_without.Statement.{statement}
 use Rattle.query.proofs.reaches_without.Tie as tie
 
-returns : tie.Need-returns
+returns : tie.Need-returns-then-number-ne0
 returns c = search without_refused
 
-returns-2 : tie.Need-returns-2
+returns-2 : tie.Need-returns-then-product-count_at
 returns-2 c = search without_no
 
-returns-3 : tie.Need-returns-3
+returns-3 : tie.Need-returns
 returns-3 c = search without_yes
 
 product-requires : tie.Need-product-requires
-product-requires c κs = without_ready _ _ _ _ _ _ _ c.before.without-number.ensures c.if1.false
+product-requires c κs = without_ready _ _ _ _ _ _ _ c.without_number-number.ensures c.if-number-ne0.false
 
-count-at-requires : tie.Need-count-at-requires
+count-at-requires : tie.Need-count_at-requires
 count-at-requires c κs =
-    let r = without_ready _ _ _ _ _ _ _ c.before.before.without-number.ensures c.before.if1.false in
+    let r = without_ready _ _ _ _ _ _ _ c.without_number-number.ensures c.if-number-ne0.false in
     (r.0, r.1, r.2)
 
 pub reaches_without_spec : {M : Type 1} → statement M

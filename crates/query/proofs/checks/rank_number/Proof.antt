@@ -7,22 +7,22 @@ use Rattle.query.proofs.CheckLaws.{rank_shape, rank_no_vertex, rank_broken, rank
 use Rattle.query.proofs.checks.rank_number.Statement.{statement}
 use Rattle.query.proofs.checks.rank_number.Tie as tie
 
-returns : tie.Need-returns
+returns : tie.Need-returns-then-number-ne0
 returns c = search rank_shape
 
-returns-2 : tie.Need-returns-2
+returns-2 : tie.Need-returns-then-has_no_vertex
 returns-2 c = search rank_no_vertex
 
-returns-3 : tie.Need-returns-3
+returns-3 : tie.Need-returns-then-is_broken
 returns-3 c = search rank_broken
 
-returns-4 : tie.Need-returns-4
+returns-4 : tie.Need-returns
 returns-4 c = search rank_good
 
-is-broken-requires : tie.Need-is-broken-requires
+is-broken-requires : tie.Need-is_broken-requires
 is-broken-requires c κs =
-    let shape = c.before.before in
-    (shape_of _ _ _ shape.before.shape-number.ensures shape.if1.false, vertices_of _ shape.before.before.before.before.args.path.now ((reflects_false c.before.has-no-vertex.ensures).0 c.if2.false))
+    let shape = c.before in
+    (shape_of _ _ _ shape.shape_number-number.ensures shape.if-number-ne0.false, vertices_of _ shape.args.path.now ((reflects_false c.has_no_vertex.ensures).0 c.if-has_no_vertex.false))
 
 pub rank_number_spec : {M : Type 1} → statement M
 rank_number_spec =

@@ -7,24 +7,24 @@ use Rattle.query.proofs.CheckLaws.{without_shape, without_vertex, without_absent
 use Rattle.query.proofs.checks.without_number.Statement.{statement}
 use Rattle.query.proofs.checks.without_number.Tie as tie
 
-returns : tie.Need-returns
+returns : tie.Need-returns-then-number-ne0
 returns c = search without_shape
 
-returns-2 : tie.Need-returns-2
+returns-2 : tie.Need-returns-then-n-greater
 returns-2 c = search without_vertex
 
-returns-3 : tie.Need-returns-3
+returns-3 : tie.Need-returns-then-not-has_edge
 returns-3 c = search (without_absent, not-true)
 
-returns-4 : tie.Need-returns-4
+returns-4 : tie.Need-returns
 returns-4 c = search (without_there, not-false)
 
-has-edge-requires : tie.Need-has-edge-requires
+has-edge-requires : tie.Need-has_edge-requires
 has-edge-requires c κs =
-    let shape = c.before.before.before.before in
-    let edge = c.before.before.greater2.ensures in
-    let all = c.before.greater3.ensures in (
-      shape_of _ _ _ shape.before.shape-number.ensures shape.if1.false,
+    let shape = c.before in
+    let edge = c.greater-2.ensures in
+    let all = c.greater-3.ensures in (
+      shape_of _ _ _ shape.shape_number-number.ensures shape.if-number-ne0.false,
       omega (arith, edge.first, all.second),
       omega (arith, edge.second, all.second),
     )

@@ -9,36 +9,36 @@ use Rattle.query.proofs.PassedLaws.{Passing, passing_start, passing_more, passin
 use Rattle.query.proofs.passed.pass_over.Statement.{statement}
 use Rattle.query.proofs.passed.pass_over.Tie as tie
 
-abbrev invariant-loop : tie.invariant-loop
+abbrev invariant-loop : tie.invariant-loop-rest
 invariant-loop n sheet i b j sum₀ rest₀ sum rest = Passing n sheet j i b rest sum
 
-abbrev decreases-loop : tie.decreases-loop
+abbrev decreases-loop : tie.decreases-loop-rest
 decreases-loop n sheet i b j sum₀ rest₀ sum rest = rest
 
-loop-holds : tie.Need-loop-init invariant-loop decreases-loop
+loop-holds : tie.Need-loop-rest-init invariant-loop decreases-loop
 loop-holds c = search passing_start
 
-loop-again : tie.Need-loop-preserved invariant-loop decreases-loop
+loop-again : tie.Need-loop-rest-preserved invariant-loop decreases-loop
 loop-again c =
-    let at = c.before.before.before.before.before in
-    let a = at.before.before.before.before.args in
-    passing_more a.n a.sheet.now a.j a.i a.b at.loop.rest at.loop.sum _ _ _ _ at.loop.invariant c.before.before.before.lowest-bit.ensures
-    c.before.before.count_at.ensures c.before.wrapping_add.ensures c.clear-lowest.ensures
+    let at = c.before in
+    let a = at.args in
+    passing_more a.n a.sheet.now a.j a.i a.b at.loop-rest.rest at.loop-rest.sum _ _ _ _ at.loop-rest.invariant c.lowest_bit-a.ensures
+    c.count_at.ensures c.wrapping_add-sum.ensures c.clear_lowest-rest.ensures
 
 returns : tie.Need-returns invariant-loop decreases-loop
 returns c =
-    let a = c.before.before.before.before.before.args in
-    passing_done a.n a.sheet.now a.j a.i a.b _ _ c.before.loop.invariant (omega (arith, eqb-true))
+    let a = c.args in
+    passing_done a.n a.sheet.now a.j a.i a.b _ _ c.loop-rest.invariant (omega (arith, eqb-true))
 
-lowest-bit-requires : tie.Need-lowest-bit-requires invariant-loop decreases-loop
+lowest-bit-requires : tie.Need-lowest_bit-a-requires invariant-loop decreases-loop
 lowest-bit-requires c κs = omega (arith, eqb-false)
 
-count-at-requires : tie.Need-count-at-requires invariant-loop decreases-loop
+count-at-requires : tie.Need-count_at-requires invariant-loop decreases-loop
 count-at-requires c κs =
-    let start = c.before.before.before.before.before.before in
-    (start.requires.0, omega (arith, lowest_lt _ _ _ c.lowest-bit.ensures c.before.before.loop.invariant.below), start.requires.3)
+    let start = c.before in
+    (start.requires.0, omega (arith, lowest_lt _ _ _ c.lowest_bit-a.ensures c.loop-rest.invariant.below), start.requires.3)
 
-loop-less : tie.Need-loop-smaller invariant-loop decreases-loop
+loop-less : tie.Need-loop-rest-smaller invariant-loop decreases-loop
 loop-less c = search lowest_cleared_lt
 
 pub pass_over_spec : {M : Type 1} → statement M

@@ -8,35 +8,35 @@ use Rattle.query.proofs.StepLaws.{Trying, trying_start, trying_goes, trying_more
 use Rattle.query.proofs.walk.step.Statement.{statement}
 use Rattle.query.proofs.walk.step.Tie as tie
 
-abbrev invariant-loop : tie.invariant-loop
+abbrev invariant-loop : tie.invariant-loop-rest
 invariant-loop n sheet i to k left₀ rest₀ left rest = Trying n sheet to i k rest left
 
-abbrev decreases-loop : tie.decreases-loop
+abbrev decreases-loop : tie.decreases-loop-rest
 decreases-loop n sheet i to k left₀ rest₀ left rest = rest
 
-loop-holds : tie.Need-loop-init invariant-loop decreases-loop
+loop-holds : tie.Need-loop-rest-init invariant-loop decreases-loop
 loop-holds c = search trying_start
 
-loop-again : tie.Need-loop-preserved invariant-loop decreases-loop
+loop-again : tie.Need-loop-rest-preserved invariant-loop decreases-loop
 loop-again c = search trying_more
 
-returns : tie.Need-returns invariant-loop decreases-loop
+returns : tie.Need-returns-then-left-count invariant-loop decreases-loop
 returns c = search trying_goes
 
-returns-2 : tie.Need-returns-2 invariant-loop decreases-loop
+returns-2 : tie.Need-returns invariant-loop decreases-loop
 returns-2 c =
-    let a = c.before.before.before.before.before.args in
-    trying_passes a.n a.sheet.now a.to a.i a.k _ _ c.before.loop.invariant (omega (arith, eqb-true))
+    let a = c.args in
+    trying_passes a.n a.sheet.now a.to a.i a.k _ _ c.loop-rest.invariant (omega (arith, eqb-true))
 
-lowest-bit-requires : tie.Need-lowest-bit-requires invariant-loop decreases-loop
+lowest-bit-requires : tie.Need-lowest_bit-b-requires invariant-loop decreases-loop
 lowest-bit-requires c κs = omega (arith, eqb-false)
 
-count-at-requires : tie.Need-count-at-requires invariant-loop decreases-loop
+count-at-requires : tie.Need-count_at-count-requires invariant-loop decreases-loop
 count-at-requires c κs =
-    let start = c.before.before.before.before.before.before in
-    (start.requires.0, omega (arith, lowest_lt _ _ _ c.lowest-bit.ensures c.before.before.loop.invariant.below), start.requires.2)
+    let start = c.before in
+    (start.requires.0, omega (arith, lowest_lt _ _ _ c.lowest_bit-b.ensures c.loop-rest.invariant.below), start.requires.2)
 
-loop-less : tie.Need-loop-smaller invariant-loop decreases-loop
+loop-less : tie.Need-loop-rest-smaller invariant-loop decreases-loop
 loop-less c = search lowest_cleared_lt
 
 pub step_spec : {M : Type 1} → statement M
