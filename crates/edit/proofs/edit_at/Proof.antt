@@ -4,10 +4,10 @@ use Rattle.edit.proofs.EditLaws.{made_refused, effect_made}
 use Rattle.edit.proofs.edit_at.Statement.{statement}
 use Rattle.edit.proofs.edit_at.Tie as tie
 
-returns : tie.Need-returns
+returns : tie.Need-returns-then-number-ne0
 returns c = search made_refused
 
-returns-2 : tie.Need-returns-2
+returns-2 : tie.Need-returns
 returns-2 c = search effect_made
 
 pub edit_at_spec : {M : Type 1} → statement M

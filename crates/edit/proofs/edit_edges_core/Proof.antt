@@ -6,17 +6,17 @@ use Rattle.edit.proofs.EditLaws.{core_refused, ready, core_edited}
 use Rattle.edit.proofs.edit_edges_core.Statement.{statement}
 use Rattle.edit.proofs.edit_edges_core.Tie as tie
 
-returns : tie.Need-returns
-returns c = core_refused _ _ _ c.before.before.masks-number.ensures _ c.before.if1.true c.refused.ensures
+returns : tie.Need-returns-then-number-ne0
+returns c = core_refused _ _ _ c.masks_number-number.ensures _ c.if-number-ne0.true c.refused.ensures
 
-edit-at-requires : tie.Need-edit-at-requires
+edit-at-requires : tie.Need-edit_at-requires
 edit-at-requires c κs =
-    let checked = c.before.before in
-    let start = checked.before.before in
+    let checked = c.before in
+    let start = checked.before in
     let a = start.args in
-    ready _ (lent a.sheet.now) start.requires _ c.before.if1.false (at a.v a.predecessors a.successors) checked.masks-number.ensures
+    ready _ (lent a.sheet.now) start.requires _ c.if-number-ne0.false (at a.v a.predecessors a.successors) checked.masks_number-number.ensures
 
-returns-2 : tie.Need-returns-2
+returns-2 : tie.Need-returns
 returns-2 c = search core_edited
 
 pub edit_edges_core_spec : {M : Type 1} → statement M

@@ -60,5 +60,5 @@ returns-2 c =
 pub descend_spec : {M : Type 1} → statement M
 descend_spec =
     tie.close
-    (tie.spec invariant-loop decreases-loop look-ahead-requires loop-holds returns (λ c κs. omega arith) (λ c. omega (arith, room c.before)) (λ c. omega (arith, room c.before))
-    (λ c. omega (arith, room c.before)) mul_next shared-slice-read-next (λ c. omega (arith, room c.before.before)) loop-again returns-2)
+    (tie.spec invariant-loop decreases-loop look-ahead-requires loop-holds returns (λ c κs. omega arith) (λ c. omega (arith, c.loop-next.invariant.0.short)) (λ c. omega (arith, c.loop-next.invariant.0.short))
+    (λ c. omega (arith, c.loop-next.invariant.0.short)) mul_next shared-slice-read-next (λ c. omega (arith, c.loop-next.invariant.0.short)) loop-again returns-2)

@@ -35,10 +35,10 @@ deep : (c : tie.Else-depth-eq0 invariant-loop decreases-loop) → 0 < c.descend-
 deep c = omega arith
 
 mul-take-away : tie.Need-offset_bounds-stack-depth invariant-loop decreases-loop
-mul-take-away c = omega (arith, (c.descend-depth.ensures.stack (deep c)).short)
+mul-take-away c = omega (arith, (c.descend-depth.ensures.stack (omega arith)).short)
 
 array-read-take-away : tie.Need-bounds-stack-depth invariant-loop decreases-loop
-array-read-take-away c = omega (arith, (c.descend-depth.ensures.stack (deep c)).short)
+array-read-take-away c = omega (arith, (c.descend-depth.ensures.stack (omega arith)).short)
 
 take-away-requires : tie.Need-take_away-p-requires invariant-loop decreases-loop
 take-away-requires c κs =
@@ -51,14 +51,14 @@ take-away-requires c κs =
 
 loop-less : tie.Need-loop-p-smaller invariant-loop decreases-loop
 loop-less c =
-    let e = c.before in
+    let e = c.before.before in
     let l = e.before in
     let a = l.before in
     taken_less _ _ a.requires.0.high _ _ l.loop-p.invariant.0 _ _ e.descend-depth.ensures (deep e) _ _ c.take_away-p.ensures.0 c.take_away-p.ensures.1
 
 loop-again : tie.Need-loop-p-preserved invariant-loop decreases-loop
 loop-again c =
-    let e = c.before in
+    let e = c.before.before in
     let l = e.before in
     let a = l.before in (
       taken_peeled _ _ a.requires.0.high _ _ l.loop-p.invariant.0 _ _ e.descend-depth.ensures (deep e) _ _ c.take_away-p.ensures.0 c.take_away-p.ensures.1,

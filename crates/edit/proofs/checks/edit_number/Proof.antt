@@ -5,25 +5,25 @@ use Rattle.edit.proofs.CheckLaws.{delete_absent, delete_good, insert_into, inser
 use Rattle.edit.proofs.checks.edit_number.Statement.{statement}
 use Rattle.edit.proofs.checks.edit_number.Tie as tie
 
-returns : tie.Need-returns
+returns : tie.Need-returns-then-some_edge
 returns c = search (delete_absent, not-true)
 
-returns-2 : tie.Need-returns-2
+returns-2 : tie.Need-returns-then-not-inserts
 returns-2 c = search (delete_good, not-true)
 
-returns-3 : tie.Need-returns-3
+returns-3 : tie.Need-returns-then-test_bit
 returns-3 c = search (insert_into, not-false)
 
-returns-4 : tie.Need-returns-4
+returns-4 : tie.Need-returns-then-test_bit-2
 returns-4 c = search (insert_out, not-false)
 
-returns-5 : tie.Need-returns-5
+returns-5 : tie.Need-returns-then-some_edge-2
 returns-5 c = search (insert_present, not-false)
 
-returns-6 : tie.Need-returns-6
+returns-6 : tie.Need-returns-then-closes_cycle
 returns-6 c = search (insert_cycle, not-false)
 
-returns-7 : tie.Need-returns-7
+returns-7 : tie.Need-returns
 returns-7 c = search (insert_good, not-false)
 
 pub edit_number_spec : {M : Type 1} → statement M

@@ -5,16 +5,16 @@ use Rattle.edit.proofs.CheckLaws.{masks_vertex, masks_predecessors, masks_succes
 use Rattle.edit.proofs.checks.masks_number.Statement.{statement}
 use Rattle.edit.proofs.checks.masks_number.Tie as tie
 
-returns : tie.Need-returns
+returns : tie.Need-returns-then-n-v
 returns c = search masks_vertex
 
-returns-2 : tie.Need-returns-2
+returns-2 : tie.Need-returns-then-not-within
 returns-2 c = search (masks_predecessors, not-true)
 
-returns-3 : tie.Need-returns-3
+returns-3 : tie.Need-returns-then-not-within-2
 returns-3 c = search (masks_successors, not-true)
 
-returns-4 : tie.Need-returns-4
+returns-4 : tie.Need-returns
 returns-4 c = search (masks_good, not-false)
 
 pub masks_number_spec : {M : Type 1} → statement M

@@ -14,40 +14,40 @@ use Rattle.edit.proofs.CheckLaws.{refused_test}
 use Rattle.edit.proofs.checks.some_into.Statement.{statement}
 use Rattle.edit.proofs.checks.some_into.Tie as tie
 
-abbrev invariant-loop : tie.invariant-loop
+abbrev invariant-loop : tie.invariant-loop-rest
 invariant-loop inserts n sheet v mask rest₀ rest = Searching n mask rest (λ (i : ℕ). edge_at sheet i v ≡ one_if inserts)
 
-abbrev decreases-loop : tie.decreases-loop
+abbrev decreases-loop : tie.decreases-loop-rest
 decreases-loop inserts n sheet v mask rest₀ rest = rest
 
-loop-holds : tie.Need-loop-init invariant-loop decreases-loop
-loop-holds c = searching_start _ _ _ c.before.requires.2
+loop-holds : tie.Need-loop-rest-init invariant-loop decreases-loop
+loop-holds c = searching_start _ _ _ c.requires.2
 
-lowest-bit-requires : tie.Need-lowest-bit-requires invariant-loop decreases-loop
+lowest-bit-requires : tie.Need-lowest_bit-i-requires invariant-loop decreases-loop
 lowest-bit-requires c κs = omega (arith, eqb-false)
 
-shared-slice-read-refused-bits : tie.Need-shared-slice-read-refused-bits invariant-loop decreases-loop
-shared-slice-read-refused-bits c = omega (arith, rows_within, searching_below _ _ _ _ _ c.before.before.before.loop.invariant c.before.lowest-bit.ensures)
+shared-slice-read-refused-bits : tie.Need-bounds-sheet-i invariant-loop decreases-loop
+shared-slice-read-refused-bits c = omega (arith, rows_within, searching_below _ _ _ _ _ c.loop-rest.invariant c.lowest_bit-i.ensures)
 
-returns : tie.Need-returns invariant-loop decreases-loop
+returns : tie.Need-returns-then-test_bit invariant-loop decreases-loop
 returns c =
-    let l = c.before.before.before.before in
-    let inserts = l.before.before.before.before.args.inserts in
-    searching_found _ _ _ _ _ l.before.before.loop.invariant l.lowest-bit.ensures
-    ((refused_test inserts _ _ _ _ (omega arith) c.before.before.refused-bits.ensures c.before.test_bit.ensures).holds c.if1.true)
+    let l = c.before in
+    let inserts = l.args.inserts in
+    searching_found _ _ _ _ _ l.loop-rest.invariant l.lowest_bit-i.ensures
+    ((refused_test inserts _ _ _ _ (omega arith) c.refused_bits.ensures c.test_bit.ensures).holds c.if-test_bit.true)
 
-loop-less : tie.Need-loop-smaller invariant-loop decreases-loop
-loop-less c = lowest_cleared_lt _ _ _ c.before.before.before.before.before.lowest-bit.ensures c.clear-lowest.ensures
+loop-less : tie.Need-loop-rest-smaller invariant-loop decreases-loop
+loop-less c = lowest_cleared_lt _ _ _ c.lowest_bit-i.ensures c.clear_lowest-rest.ensures
 
-loop-again : tie.Need-loop-preserved invariant-loop decreases-loop
+loop-again : tie.Need-loop-rest-preserved invariant-loop decreases-loop
 loop-again c =
-    let l = c.before.before.before.before.before in
-    let inserts = l.before.before.before.before.args.inserts in
-    let test = refused_test inserts _ _ _ _ (omega arith) c.before.before.before.refused-bits.ensures c.before.before.test_bit.ensures in
-    searching_more _ _ _ _ _ l.before.before.loop.invariant l.lowest-bit.ensures _ ((reflects_false test).0 c.before.if1.false) c.clear-lowest.ensures
+    let l = c.before in
+    let inserts = l.args.inserts in
+    let test = refused_test inserts _ _ _ _ (omega arith) c.refused_bits.ensures c.test_bit.ensures in
+    searching_more _ _ _ _ _ l.loop-rest.invariant l.lowest_bit-i.ensures _ ((reflects_false test).0 c.if-test_bit.false) c.clear_lowest-rest.ensures
 
-returns-2 : tie.Need-returns-2 invariant-loop decreases-loop
-returns-2 c = searching_done _ _ _ _ c.before.loop.invariant (omega (arith, eqb-true))
+returns-2 : tie.Need-returns invariant-loop decreases-loop
+returns-2 c = searching_done _ _ _ _ c.loop-rest.invariant (omega (arith, eqb-true))
 
 pub some_into_spec : {M : Type 1} → statement M
 some_into_spec =
