@@ -1,5 +1,7 @@
 // The records of a plan, 8 bytes each: the capital letter, a space, two digits, a space, two digits, a line feed. They are written
 // and read, and a reader carries a plan's bytes and the record that it has got to.
+#![tactic(auto)]
+
 ghost use Rattle.std.specs.Prelude.{◌≡◌, true, ◌<◌, take};
 ghost use Rattle.record.specs.Record.{record_bytes, encoded, are_digits, from_digits, decoded};
 
