@@ -43,7 +43,9 @@ record_modelled n m s h q x = subst (λ y. RecordNumber m x (number_on y s x) ×
     go Malformed = (refl, λ z. h)
 
 record_vertices : (m : Model) (x : Record) → (record_effect m x).vertices ≡ m.vertices
-record_vertices m x = elim x [ Insert u v ↦ refl | Delete u v ↦ refl | Malformed ↦ refl ]
+record_vertices m (Insert u v) = refl
+record_vertices m (Delete u v) = refl
+record_vertices m Malformed = refl
 
 -- a record has one number
 record_only : (m : Model) (x : Record) (j k : ℕ) → RecordNumber m x j → RecordNumber m x k → j ≡ k
@@ -90,7 +92,9 @@ applied_place n (x ∷ l) s p z =
 
 record_after : (n : ℕ) (x : Record) (es : List Edit) (s : Lent) → after (record_edits n x ++ es) s ≡ after es (left_by n s x)
 unfolding after
-record_after n x es s = elim x [ Insert u v ↦ refl | Delete u v ↦ refl | Malformed ↦ refl ]
+record_after n (Insert u v) es s = refl
+record_after n (Delete u v) es s = refl
+record_after n Malformed es s = refl
 
 record_answers : (n : ℕ) (x : Record) (es : List Edit) (s : Lent) (l : List Record) → number_on n s x ≡ 0 → Accepted l (answers es (left_by n s x))
     → Accepted (x ∷ l) (answers (record_edits n x ++ es) s)

@@ -2,44 +2,45 @@
 use Prim.Native.Nat.{ℕ, ◌-◌, ◌≤◌, ◌<◌}
 use native.Mathlib.Omega.{arith}
 use borrow.Author.Count.{below_more}
-use borrow.Author.Tests.{not-false}
+use mathlib.Core.Path.{ap}
+use mathlib.Core.Bool.{not}
 use Rattle.sheet_theory.specs.Internal.{CountsHold}
 use Rattle.vertex_counts.proofs.CountsLaws.{each_fails, each_holds}
 use Rattle.vertex_counts.proofs.all_counts_hold.Statement.{statement}
 use Rattle.vertex_counts.proofs.all_counts_hold.Tie as tie
 
-abbrev invariant-loop : tie.invariant-loop
+abbrev invariant-loop : tie.invariant-loop-i
 invariant-loop n sheet i₀ i = (i ≤ n) × ((k : ℕ) → k < i → CountsHold n sheet k)
 
-abbrev decreases-loop : tie.decreases-loop
+abbrev decreases-loop : tie.decreases-loop-i
 decreases-loop n sheet i₀ i = n - i
 
-loop-holds : tie.Need-loop-init invariant-loop decreases-loop
+loop-holds : tie.Need-loop-i-init invariant-loop decreases-loop
 loop-holds c = (omega arith, λ k h. absurd (omega arith))
 
-counts-hold-requires : tie.Need-counts-hold-requires invariant-loop decreases-loop
+counts-hold-requires : tie.Need-counts_hold-requires invariant-loop decreases-loop
 counts-hold-requires c κs =
-    let p = c.before.before.before.requires in
-    let h = c.loop-test.true in
+    let p = c.requires in
+    let h = c.loop-i-test.true in
     (p.0, h, p.1 _ h)
 
-returns : tie.Need-returns invariant-loop decreases-loop
+returns : tie.Need-returns-then-not-counts_hold invariant-loop decreases-loop
 returns c =
-    let l = c.before.before.before in
-    let a = l.before.before.args in
-    each_fails (λ k. CountsHold a.n a.sheet.now k) a.n l.loop.i _ c.before.counts-hold.ensures c.if1.true (omega arith)
+    let l = c.before in
+    let a = l.args in
+    each_fails (λ k. CountsHold a.n a.sheet.now k) a.n l.loop-i.i _ c.counts_hold.ensures (ap not c.if-not-counts_hold.true) (omega arith)
 
-loop-again : tie.Need-loop-preserved invariant-loop decreases-loop
+loop-again : tie.Need-loop-i-preserved invariant-loop decreases-loop
 loop-again c =
-    let l = c.before.before.before in
-    let a = l.before.before.args in
-    let here = c.before.counts-hold.ensures.holds (not-false _ c.if1.false) in
-    (omega arith, below_more (λ k. CountsHold a.n a.sheet.now k) l.loop.i l.loop.invariant.1 here)
+    let l = c.before in
+    let a = l.args in
+    let here = c.counts_hold.ensures.holds c.if-not-counts_hold.false in
+    (omega arith, below_more (λ k. CountsHold a.n a.sheet.now k) l.loop-i.i l.loop-i.invariant.1 here)
 
-returns-2 : tie.Need-returns-2 invariant-loop decreases-loop
+returns-2 : tie.Need-returns invariant-loop decreases-loop
 returns-2 c =
-    let a = c.before.before.before.args in
-    each_holds (λ k. CountsHold a.n a.sheet.now k) a.n c.before.loop.i c.before.loop.invariant.1 (omega arith)
+    let a = c.args in
+    each_holds (λ k. CountsHold a.n a.sheet.now k) a.n c.loop-i.i c.loop-i.invariant.1 (omega arith)
 
 pub all_counts_hold_spec : {M : Type 1} → statement M
 all_counts_hold_spec =
