@@ -9,69 +9,69 @@ use Rattle.count_blocks.proofs.BlockLaws.{Unled, unled_start, leading_below, Ver
 use Rattle.count_blocks.proofs.block_holds.Statement.{statement}
 use Rattle.count_blocks.proofs.block_holds.Tie as tie
 
-abbrev invariant-loop : tie.invariant-loop
+abbrev invariant-loop : tie.invariant-loop-k
 invariant-loop n sheet c order unit leading₀ k₀ leading k =
     (k ≤ n) × (Unled n sheet (vertex_at order) c k leading) × ((m : ℕ) → m < k → VertexHolds n sheet order c m)
 
-abbrev decreases-loop : tie.decreases-loop
+abbrev decreases-loop : tie.decreases-loop-k
 decreases-loop n sheet c order unit leading₀ k₀ leading k = n - k
 
-block-mask-requires : tie.Need-block-mask-requires invariant-loop decreases-loop
-block-mask-requires c κs = omega (arith, c.before.requires.0.within, c.before.requires.0.shape.high)
+block-mask-requires : tie.Need-block_mask-leading-requires invariant-loop decreases-loop
+block-mask-requires c κs = omega (arith, c.requires.0.within, c.requires.0.shape.high)
 
-loop-holds : tie.Need-loop-init invariant-loop decreases-loop
-loop-holds c = (omega arith, unled_start _ _ _ _ _ c.block-mask.ensures, λ m q. absurd (omega arith))
+loop-holds : tie.Need-loop-k-init invariant-loop decreases-loop
+loop-holds c = (omega arith, unled_start _ _ _ _ _ c.block_mask-leading.ensures, λ m q. absurd (omega arith))
 
-element-copy-out-i : tie.Need-element-copy-out-i invariant-loop decreases-loop
-element-copy-out-i c = omega (arith, c.before.before.before.before.requires.0.shape.high)
+element-copy-out-i : tie.Need-bounds-order-k invariant-loop decreases-loop
+element-copy-out-i c = omega (arith, c.requires.0.shape.high)
 
-mul-mask : tie.Need-overflow-mul-mask invariant-loop decreases-loop
+mul-mask : tie.Need-offset_bounds-sheet-i invariant-loop decreases-loop
 mul-mask c =
-    let a = c.before.before.before.before.before.requires in
-    omega (arith, a.2.order.vertex c.before.before.loop.k (omega arith), a.0.shape.high)
+    let a = c.requires in
+    omega (arith, a.2.order.vertex c.loop-k.k (omega arith), a.0.shape.high)
 
-shared-slice-read-mask : tie.Need-shared-slice-read-mask invariant-loop decreases-loop
+shared-slice-read-mask : tie.Need-bounds-sheet-i invariant-loop decreases-loop
 shared-slice-read-mask c =
-    let a = c.before.before.before.before.before.before.requires in
-    omega (arith, a.2.order.vertex c.before.before.before.loop.k (omega arith), rows_within a.0.shape)
+    let a = c.requires in
+    omega (arith, a.2.order.vertex c.loop-k.k (omega arith), rows_within a.0.shape)
 
-lead-requires : tie.Need-lead-requires invariant-loop decreases-loop
+lead-requires : tie.Need-lead-leading-requires invariant-loop decreases-loop
 lead-requires c κs =
-    let a = c.before.before.before.before.before.before.requires in
-    omega (arith, a.2.order.vertex c.before.before.before.loop.k (omega arith), a.0.shape.high)
+    let a = c.requires in
+    omega (arith, a.2.order.vertex c.loop-k.k (omega arith), a.0.shape.high)
 
-part-holds-requires : tie.Need-part-holds-requires invariant-loop decreases-loop
+part-holds-requires : tie.Need-part_holds-requires invariant-loop decreases-loop
 part-holds-requires c κs =
-    let a = c.before.before.before.before.before.before.before.requires in
-    let v = a.2.order.vertex c.before.before.before.before.loop.k (omega arith) in
+    let a = c.requires in
+    let v = a.2.order.vertex c.loop-k.k (omega arith) in
     (a.0, v, leading_below _ _ _ (a.1 _ v))
 
-returns : tie.Need-returns invariant-loop decreases-loop
+returns : tie.Need-returns-then-not-part_holds invariant-loop decreases-loop
 returns c =
-    let l = c.before.before.before.before.before.before.loop in
-    let a = c.before.before.before.before.before.before.before.before.before in
+    let l = c.loop-k in
+    let a = c.before in
     let here = vertex_holds a.args.n a.args.sheet.now a.args.order.now a.requires.2 a.args.c l.k _ _ _ (omega arith) l.invariant.1 refl
-    c.before.part-holds.ensures in
+    c.part_holds.ensures in
     block_of a.args.n a.args.sheet.now a.args.order.now a.requires.2 a.args.c _
-    (each_fails (VertexHolds a.args.n a.args.sheet.now a.args.order.now a.args.c) _ l.k _ here c.if1.true (omega arith))
+    (each_fails (VertexHolds a.args.n a.args.sheet.now a.args.order.now a.args.c) _ l.k _ here c.if-not-part_holds.true (omega arith))
 
-loop-again : tie.Need-loop-preserved invariant-loop decreases-loop
+loop-again : tie.Need-loop-k-preserved invariant-loop decreases-loop
 loop-again c =
-    let l = c.before.before.before.before.before.before.loop in
-    let a = c.before.before.before.before.before.before.before.before.before in
-    let part = c.before.part-holds.ensures in
-    let held = not-false _ c.if1.false in
+    let l = c.loop-k in
+    let a = c.before in
+    let part = c.part_holds.ensures in
+    let held = c.if-not-part_holds.false in
     let here = vertex_holds a.args.n a.args.sheet.now a.args.order.now a.requires.2 a.args.c l.k _ _ _ (omega arith) l.invariant.1 refl part in (
       omega arith,
-      compared_more a.args.n a.args.sheet.now a.args.order.now a.requires.2 a.args.c l.k _ _ _ l.invariant.1 c.before.before.lead.ensures (part.holds held),
+      compared_more a.args.n a.args.sheet.now a.args.order.now a.requires.2 a.args.c l.k _ _ _ l.invariant.1 c.lead-leading.ensures (part.holds held),
       below_more (VertexHolds a.args.n a.args.sheet.now a.args.order.now a.args.c) l.k l.invariant.2 (here.holds held),
     )
 
-returns-2 : tie.Need-returns-2 invariant-loop decreases-loop
+returns-2 : tie.Need-returns invariant-loop decreases-loop
 returns-2 c =
-    let a = c.before.before.before.before in
+    let a = c.before in
     block_of a.args.n a.args.sheet.now a.args.order.now a.requires.2 a.args.c _
-    (each_holds (VertexHolds a.args.n a.args.sheet.now a.args.order.now a.args.c) _ _ c.before.loop.invariant.2 (omega arith))
+    (each_holds (VertexHolds a.args.n a.args.sheet.now a.args.order.now a.args.c) _ _ c.loop-k.invariant.2 (omega arith))
 
 pub block_holds_spec : {M : Type 1} → statement M
 block_holds_spec =

@@ -6,30 +6,30 @@ use Rattle.count_blocks.proofs.BlockLaws.{Held, held_more, held_fails, held_all}
 use Rattle.count_blocks.proofs.blocks_hold.Statement.{statement}
 use Rattle.count_blocks.proofs.blocks_hold.Tie as tie
 
-abbrev invariant-loop : tie.invariant-loop
+abbrev invariant-loop : tie.invariant-loop-c
 invariant-loop n sheet order unit c₀ c = (c ≤ n + 16) × (Held n sheet c)
 
-abbrev decreases-loop : tie.decreases-loop
+abbrev decreases-loop : tie.decreases-loop-c
 decreases-loop n sheet order unit c₀ c = n + 16 - c
 
-loop-holds : tie.Need-loop-init invariant-loop decreases-loop
+loop-holds : tie.Need-loop-c-init invariant-loop decreases-loop
 loop-holds c = (omega arith, λ i j hi hj q. absurd (omega arith))
 
-block-holds-requires : tie.Need-block-holds-requires invariant-loop decreases-loop
+block-holds-requires : tie.Need-block_holds-requires invariant-loop decreases-loop
 block-holds-requires c κs =
-    let a = c.before.before.before.before.before.before.requires in
-    (record { shape = a.0; within = c.before.block_at.ensures.within; unit = c.before.before.before.before.unit-words.ensures }, a.1, a.2)
+    let a = c.requires in
+    (record { shape = a.0; within = c.block_at.ensures.within; unit = c.unit_words-unit.ensures }, a.1, a.2)
 
-returns : tie.Need-returns invariant-loop decreases-loop
-returns c = held_fails _ _ _ _ c.before.before.before.block_at.ensures _ c.before.block-holds.ensures c.if1.true
+returns : tie.Need-returns-then-not-block_holds invariant-loop decreases-loop
+returns c = held_fails _ _ _ _ c.block_at.ensures _ c.block_holds.ensures c.if-not-block_holds.true
 
-loop-again : tie.Need-loop-preserved invariant-loop decreases-loop
+loop-again : tie.Need-loop-c-preserved invariant-loop decreases-loop
 loop-again c =
-    let held = c.before.block-holds.ensures.holds (not-false _ c.if1.false) in
-    (omega arith, held_more _ _ _ _ c.before.before.before.block_at.ensures c.before.before.before.before.before.loop.invariant.1 held)
+    let held = c.block_holds.ensures.holds c.if-not-block_holds.false in
+    (omega arith, held_more _ _ _ _ c.block_at.ensures c.loop-c.invariant.1 held)
 
-returns-2 : tie.Need-returns-2 invariant-loop decreases-loop
-returns-2 c = held_all _ _ _ c.before.loop.invariant.1 (omega arith)
+returns-2 : tie.Need-returns invariant-loop decreases-loop
+returns-2 c = held_all _ _ _ c.loop-c.invariant.1 (omega arith)
 
 pub blocks_hold_spec : {M : Type 1} → statement M
 blocks_hold_spec =

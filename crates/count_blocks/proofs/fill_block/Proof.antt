@@ -8,44 +8,44 @@ use Rattle.count_blocks.proofs.BlockLaws.{Unled, unled_start, leading_below, fil
 use Rattle.count_blocks.proofs.fill_block.Statement.{statement}
 use Rattle.count_blocks.proofs.fill_block.Tie as tie
 
-abbrev invariant-loop : tie.invariant-loop
+abbrev invariant-loop : tie.invariant-loop-k
 invariant-loop n sheet₀ c order unit leading₀ k₀ sheet leading k =
     (k ≤ n) × (Filled n sheet₀ (vertex_at order) c 16 k sheet) × (Unled n sheet (vertex_at order) c k leading)
 
-abbrev decreases-loop : tie.decreases-loop
+abbrev decreases-loop : tie.decreases-loop-k
 decreases-loop n sheet₀ c order unit leading₀ k₀ sheet leading k = n - k
 
-block-mask-requires : tie.Need-block-mask-requires invariant-loop decreases-loop
-block-mask-requires c κs = omega (arith, c.before.requires.0.within, c.before.requires.0.shape.high)
+block-mask-requires : tie.Need-block_mask-leading-requires invariant-loop decreases-loop
+block-mask-requires c κs = omega (arith, c.requires.0.within, c.requires.0.shape.high)
 
-loop-holds : tie.Need-loop-init invariant-loop decreases-loop
+loop-holds : tie.Need-loop-k-init invariant-loop decreases-loop
 loop-holds c =
-    let a = c.before.before in
-    (omega arith, filled_start _ _ _ a.requires.2 a.requires.0.shape _ 16 a.requires.0.within, unled_start _ _ _ _ _ c.block-mask.ensures)
+    let a = c.before in
+    (omega arith, filled_start _ _ _ a.requires.2 a.requires.0.shape _ 16 a.requires.0.within, unled_start _ _ _ _ _ c.block_mask-leading.ensures)
 
-element-copy-out-i : tie.Need-element-copy-out-i invariant-loop decreases-loop
-element-copy-out-i c = omega (arith, c.before.before.before.before.requires.0.shape.high)
+element-copy-out-i : tie.Need-bounds-order-k invariant-loop decreases-loop
+element-copy-out-i c = omega (arith, c.requires.0.shape.high)
 
-mul-mask : tie.Need-overflow-mul-mask invariant-loop decreases-loop
+mul-mask : tie.Need-offset_bounds-sheet-i invariant-loop decreases-loop
 mul-mask c =
-    let a = c.before.before.before.before.before.requires in
-    omega (arith, a.2.order.vertex c.before.before.loop.k (omega arith), a.0.shape.high)
+    let a = c.requires in
+    omega (arith, a.2.order.vertex c.loop-k.k (omega arith), a.0.shape.high)
 
-slice-read-mask : tie.Need-slice-read-mask invariant-loop decreases-loop
+slice-read-mask : tie.Need-bounds-sheet-i invariant-loop decreases-loop
 slice-read-mask c =
-    let a = c.before.before.before.before.before.before.requires in
-    let l = c.before.before.before.loop in
+    let a = c.requires in
+    let l = c.loop-k in
     omega (arith, a.2.order.vertex l.k (omega arith), l.invariant.1.long, rows_within a.0.shape)
 
-lead-requires : tie.Need-lead-requires invariant-loop decreases-loop
+lead-requires : tie.Need-lead-leading-requires invariant-loop decreases-loop
 lead-requires c κs =
-    let a = c.before.before.before.before.before.before.requires in
-    omega (arith, a.2.order.vertex c.before.before.before.loop.k (omega arith), a.0.shape.high)
+    let a = c.requires in
+    omega (arith, a.2.order.vertex c.loop-k.k (omega arith), a.0.shape.high)
 
-fill-part-requires : tie.Need-fill-part-requires invariant-loop decreases-loop
+fill-part-requires : tie.Need-fill_part-requires invariant-loop decreases-loop
 fill-part-requires c κs =
-    let a = c.before.before.before.before.before.before.before.before in
-    let l = c.before.before.before.before.before.loop in
+    let a = c.before in
+    let l = c.loop-k in
     let f = l.invariant.1 in
     let v = a.requires.2.order.vertex l.k (omega arith) in
     let row = same_below a.args.n a.args.sheet.now l.sheet f.long f.rows a.requires.1 _ v in (
@@ -58,21 +58,21 @@ fill-part-requires c κs =
       leading_below _ _ _ row,
     )
 
-loop-again : tie.Need-loop-preserved invariant-loop decreases-loop
+loop-again : tie.Need-loop-k-preserved invariant-loop decreases-loop
 loop-again c =
-    let a = c.before.before.before.before.before.before.before.before.before.before.before in
-    let l = c.before.before.before.before.before.before.before.before.loop in
+    let a = c.before in
+    let l = c.loop-k in
     let more = filling_more a.args.n a.args.sheet.now a.args.order.now a.requires.2 a.requires.0.shape a.args.c a.requires.0.within _ _ l.k
-    l.leading _ _ (omega arith) l.invariant.1 l.invariant.2 refl c.before.before.fill-part.ensures c.before.before.before.before.lead.ensures in
+    l.leading _ _ (omega arith) l.invariant.1 l.invariant.2 refl c.fill_part.ensures c.lead-leading.ensures in
     (omega arith, more.0, more.1)
 
-same_length : tie.Need-same-length invariant-loop decreases-loop
-same_length c = c.before.loop.invariant.1.long
+same_length : tie.Need-shape_of-sheet invariant-loop decreases-loop
+same_length c = c.loop-k.invariant.1.long
 
 returns : tie.Need-returns invariant-loop decreases-loop
 returns c =
-    let a = c.before.before.before.before in
-    filled_all _ _ _ a.requires.2 a.requires.0.shape _ 16 a.requires.0.within _ _ c.before.loop.invariant.1 (omega arith)
+    let a = c.before in
+    filled_all _ _ _ a.requires.2 a.requires.0.shape _ 16 a.requires.0.within _ _ c.loop-k.invariant.1 (omega arith)
 
 pub fill_block_spec : {M : Type 1} → statement M
 fill_block_spec =

@@ -5,7 +5,7 @@ use Rattle.count_blocks.proofs.fill_part.Statement.{statement}
 use Rattle.count_blocks.proofs.fill_part.Tie as tie
 
 returns : tie.Need-returns
-returns c = search (part_filled, c.before.before.before.before.before.before.count-block.ensures)
+returns c = search (part_filled, c.count_block-t.ensures)
 
 pub fill_part_spec : {M : Type 1} → statement M
 fill_part_spec =

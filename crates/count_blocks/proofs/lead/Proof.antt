@@ -4,10 +4,10 @@ use Rattle.count_blocks.proofs.BlockLaws.{led_set, led_same}
 use Rattle.count_blocks.proofs.lead.Statement.{statement}
 use Rattle.count_blocks.proofs.lead.Tie as tie
 
-returns : tie.Need-returns
+returns : tie.Need-returns-then-mask-ne0
 returns c = search led_set
 
-returns-2 : tie.Need-returns-2
+returns-2 : tie.Need-returns
 returns-2 c = led_same _ _ _ (omega (arith, eqb-true))
 
 pub lead_spec : {M : Type 1} → statement M

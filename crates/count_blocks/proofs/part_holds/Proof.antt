@@ -7,9 +7,9 @@ use Rattle.count_blocks.proofs.part_holds.Tie as tie
 
 returns : tie.Need-returns
 returns c =
-    let a = c.before.before.before.before.before.before.before.before.before.before.before.before.args in
-    part_same a.n a.sheet.now a.i a.c a.mask _ c.before.before.before.before.before.before.before.before.before.before.counts-from.ensures _ _ _ c.before.before.before.before.before.before.before.before.add_words.ensures c.before.before.before.before.before.take_own.ensures
-    c.before.before.before.take-counts.ensures _ (λ k. omega (arith, c.before.before.before.before.before.before.before.before.before.before.before.shared-slice-known.given k)) c.same_words.ensures
+    let a = c.args in
+    part_same a.n a.sheet.now a.i a.c a.mask _ c.counts_from.ensures _ _ _ c.add_words.ensures c.take_own.ensures
+    c.take_counts.ensures _ (λ k. omega (arith, c.shared_slice_known-1.given k)) c.same_words.ensures
 
 pub part_holds_spec : {M : Type 1} → statement M
 part_holds_spec =

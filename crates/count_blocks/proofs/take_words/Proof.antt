@@ -7,23 +7,23 @@ use Rattle.sheet.proofs.WordsLaws.{words_more}
 use Rattle.count_blocks.proofs.take_words.Statement.{statement}
 use Rattle.count_blocks.proofs.take_words.Tie as tie
 
-abbrev invariant-loop : tie.invariant-loop
+abbrev invariant-loop : tie.invariant-loop-j
 invariant-loop n words base t₀ j₀ t j = (j ≤ n) × (length t ≡ length t₀) × (t ≡ words_by minus j words base t₀)
 
-abbrev decreases-loop : tie.decreases-loop
+abbrev decreases-loop : tie.decreases-loop-j
 decreases-loop n words base t₀ j₀ t j = n - j
 
-loop-holds : tie.Need-loop-init invariant-loop decreases-loop
+loop-holds : tie.Need-loop-j-init invariant-loop decreases-loop
 loop-holds c = (omega arith, refl, puts_none _ _ _)
 
-loop-again : tie.Need-loop-preserved invariant-loop decreases-loop
+loop-again : tie.Need-loop-j-preserved invariant-loop decreases-loop
 loop-again c = (omega arith, simp length-set (omega arith), search words_more)
 
-same_length : tie.Need-same-length invariant-loop decreases-loop
-same_length c = c.before.loop.invariant.1
+same_length : tie.Need-shape_of-t invariant-loop decreases-loop
+same_length c = c.loop-j.invariant.1
 
 returns : tie.Need-returns invariant-loop decreases-loop
-returns c = puts_done _ _ _ _ c.before.loop.j _ c.before.loop.invariant.2 (omega arith)
+returns c = puts_done _ _ _ _ c.loop-j.j _ c.loop-j.invariant.2 (omega arith)
 
 pub take_words_spec : {M : Type 1} → statement M
 take_words_spec =

@@ -19,7 +19,7 @@ find-order-requires : tie.Need-find-order-requires
 find-order-requires c κs = search rows_below
 
 fill-counts-requires : tie.Need-fill-counts-requires
-fill-counts-requires c κs = (search rules, search rows_below, c.before.before.before.find-order.ensures.ordered (not-false _ c.before.before.if2.false))
+fill-counts-requires c κs = (search rules, search rows_below, c.before.before.before.find-order.ensures.ordered c.before.before.if2.false)
 
 count-set-bits-requires : tie.Need-count-set-bits-requires
 count-set-bits-requires c κs = search recount_shape
