@@ -4,7 +4,6 @@ use borrow.Author.Tests.{le-leb}
 use Rattle.std.proofs.lemmas.Grind.{common_steps}
 use Rattle.record.specs.Record.{are_digits}
 use Rattle.record.proofs.are_digits.Goals as goal
-use Rattle.record.proofs.are_digits.Goals.{then-tens-le57, else-tens-le57}
 
 pub returns-then-ones-ge48 : goal.returns-then-ones-ge48
 unfolding are_digits
@@ -17,8 +16,4 @@ returns-then-ones-ge48 c =
 
 pub returns-else-ones-ge48 : goal.returns-else-ones-ge48
 unfolding are_digits
-returns-else-ones-ge48 c =
-    elim c.if-tens-le57.branch [
-      | then-tens-le57 w ↦ grind (arith, common_steps)
-      | else-tens-le57 w ↦ grind (arith, common_steps)
-    ]
+returns-else-ones-ge48 c = grind (arith, common_steps)

@@ -3,26 +3,15 @@ use Rattle.std.proofs.Common.{arith}
 use Rattle.record.proofs.CodecLaws.{decode_short, decode_first, decode_second, decode_third}
 use Rattle.record.proofs.CodecLaws.{decode_from, decode_to, decode_letter, decode_other}
 use Rattle.record.proofs.decode.Goals as goal
-use Rattle.record.proofs.decode.Goals.{then-bytes-ne32-via-then-bytes-ne32, then-bytes-ne32-via-else-bytes-ne32+then-bytes-ne32-2, then-bytes-ne32-via-else-bytes-ne32+else-bytes-ne32-2+then-bytes-ne10}
-use Rattle.record.proofs.decode.Goals.{then-not-are_digits-via-then-not-are_digits, then-not-are_digits-via-else-not-are_digits+then-not-are_digits-2}
 
 pub returns-then-bytes-lt-BYTES : goal.returns-then-bytes-lt-BYTES
 returns-then-bytes-lt-BYTES c = decode_short c.args.bytes.now (omega arith)
 
 pub returns-then-bytes-ne32 : goal.returns-then-bytes-ne32
-returns-then-bytes-ne32 c =
-    elim c.then-bytes-ne32.branch [
-      | then-bytes-ne32-via-then-bytes-ne32 w ↦ search decode_first
-      | then-bytes-ne32-via-else-bytes-ne32+then-bytes-ne32-2 w ↦ search decode_second
-      | then-bytes-ne32-via-else-bytes-ne32+else-bytes-ne32-2+then-bytes-ne10 w ↦ search decode_third
-    ]
+returns-then-bytes-ne32 c = grind (arith, decode_first, decode_second, decode_third)
 
 pub returns-then-not-are_digits : goal.returns-then-not-are_digits
-returns-then-not-are_digits c =
-    elim c.then-not-are_digits.branch [
-      | then-not-are_digits-via-then-not-are_digits w ↦ search decode_from
-      | then-not-are_digits-via-else-not-are_digits+then-not-are_digits-2 w ↦ search decode_to
-    ]
+returns-then-not-are_digits c = grind (arith, decode_from, decode_to)
 
 pub returns-in-76 : goal.returns-in-76
 returns-in-76 c = search decode_letter
