@@ -1,7 +1,6 @@
 -- `count_blocks::block_holds` meets its contract: after k turns the counts from the first k vertices of the order to the columns
 -- satisfy the recurrence, and those that are not among the leading have none but 0. Assumes nothing.
-use Rattle.std.proofs.Common.{ℕ, ◌-◌, ◌<◌, ◌≤◌, refl, arith, below_more}
-use borrow.Author.Tests.{not-false}
+use Rattle.std.proofs.Common.{ℕ, ◌-◌, ◌<◌, ◌≤◌, refl, ap, not, arith, below_more}
 use Rattle.sheet_theory.proofs.LayoutLaws.{rows_within}
 use Rattle.order.specs.Internal.{vertex_at}
 use Rattle.vertex_counts.proofs.CountsLaws.{each_fails, each_holds}
@@ -53,7 +52,7 @@ returns c =
     let here = vertex_holds a.args.n a.args.sheet.now a.args.order.now a.requires.2 a.args.c l.k _ _ _ (omega arith) l.invariant.1 refl
     c.part_holds.ensures in
     block_of a.args.n a.args.sheet.now a.args.order.now a.requires.2 a.args.c _
-    (each_fails (VertexHolds a.args.n a.args.sheet.now a.args.order.now a.args.c) _ l.k _ here c.if-not-part_holds.true (omega arith))
+    (each_fails (VertexHolds a.args.n a.args.sheet.now a.args.order.now a.args.c) _ l.k _ here (ap not c.if-not-part_holds.true) (omega arith))
 
 loop-again : tie.Need-loop-k-preserved invariant-loop decreases-loop
 loop-again c =

@@ -1,7 +1,6 @@
 -- `count_blocks::blocks_hold` meets its contract: after each turn the counts to the columns below c satisfy the recurrence. Assumes
 -- nothing.
-use Rattle.std.proofs.Common.{◌+◌, ◌-◌, ◌≤◌, arith, rules}
-use borrow.Author.Tests.{not-false}
+use Rattle.std.proofs.Common.{◌+◌, ◌-◌, ◌≤◌, ap, not, arith, rules}
 use Rattle.count_blocks.proofs.BlockLaws.{Held, held_more, held_fails, held_all}
 use Rattle.count_blocks.proofs.blocks_hold.Statement.{statement}
 use Rattle.count_blocks.proofs.blocks_hold.Tie as tie
@@ -21,7 +20,7 @@ block-holds-requires c κs =
     (record { shape = a.0; within = c.block_at.ensures.within; unit = c.unit_words-unit.ensures }, a.1, a.2)
 
 returns : tie.Need-returns-then-not-block_holds invariant-loop decreases-loop
-returns c = held_fails _ _ _ _ c.block_at.ensures _ c.block_holds.ensures c.if-not-block_holds.true
+returns c = held_fails _ _ _ _ c.block_at.ensures _ c.block_holds.ensures (ap not c.if-not-block_holds.true)
 
 loop-again : tie.Need-loop-c-preserved invariant-loop decreases-loop
 loop-again c =

@@ -7,25 +7,25 @@ use Rattle.recount.proofs.ValidateLaws.{valid_stray, valid_cycle, valid_holds}
 use Rattle.recount.proofs.is_valid.Statement.{statement}
 use Rattle.recount.proofs.is_valid.Tie as tie
 
-returns : tie.Need-returns
+returns : tie.Need-returns-then-has_stray_row
 returns c = search valid_stray
 
-find-order-requires : tie.Need-find-order-requires
+find-order-requires : tie.Need-find_order-requires
 find-order-requires c κs = search rows_below
 
-returns-2 : tie.Need-returns-2
+returns-2 : tie.Need-returns-then-not-find_order
 returns-2 c = search (valid_cycle, not-true)
 
-all-counts-hold-requires : tie.Need-all-counts-hold-requires
+all-counts-hold-requires : tie.Need-all_counts_hold-requires
 all-counts-hold-requires c κs = search rows_below
 
-returns-3 : tie.Need-returns-3
+returns-3 : tie.Need-returns-then-n-lt-COLUMNS
 returns-3 c = search (valid_holds, not-false)
 
-blocks-hold-requires : tie.Need-blocks-hold-requires
-blocks-hold-requires c κs = search (rows_below, c.before.before.before.find-order.ensures.ordered, not-false, arith)
+blocks-hold-requires : tie.Need-blocks_hold-requires
+blocks-hold-requires c κs = search (rows_below, c.find_order.ensures.ordered, not-false, arith)
 
-returns-4 : tie.Need-returns-4
+returns-4 : tie.Need-returns
 returns-4 c = search (valid_holds, not-false)
 
 pub is_valid_spec : {M : Type 1} → statement M

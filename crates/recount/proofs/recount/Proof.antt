@@ -5,16 +5,16 @@ use Rattle.recount.proofs.RecountLaws.{recount_refused, recount_made}
 use Rattle.recount.proofs.recount.Statement.{statement}
 use Rattle.recount.proofs.recount.Tie as tie
 
-returns : tie.Need-returns
-returns c = recount_refused _ _ _ c.before.before.altering-number.ensures _ c.before.if1.true c.refused.ensures
+returns : tie.Need-returns-then-number-ne0
+returns c = recount_refused _ _ _ c.altering_number-number.ensures _ c.if-number-ne0.true c.refused.ensures
 
-recount-core-requires : tie.Need-recount-core-requires
-recount-core-requires c κs = shape_of _ _ _ c.before.before.altering-number.ensures c.before.if1.false
+recount-core-requires : tie.Need-recount_core-requires
+recount-core-requires c κs = shape_of _ _ _ c.altering_number-number.ensures c.if-number-ne0.false
 
-returns-2 : tie.Need-returns-2
+returns-2 : tie.Need-returns
 returns-2 c =
-    let m = c.before.before in
-    recount_made _ _ _ m.before.before.before.altering-number.ensures m.before.before.if1.false _ _ m.recount-core.ensures
+    let m = c.before in
+    recount_made _ _ _ m.altering_number-number.ensures m.if-number-ne0.false _ _ m.recount_core.ensures
 
 pub recount_spec : {M : Type 1} → statement M
 recount_spec =

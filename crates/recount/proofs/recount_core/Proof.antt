@@ -6,22 +6,22 @@ use Rattle.recount.proofs.RecountLaws.{recount_stray, recount_cycle, recount_acc
 use Rattle.recount.proofs.recount_core.Statement.{statement}
 use Rattle.recount.proofs.recount_core.Tie as tie
 
-returns : tie.Need-returns
+returns : tie.Need-returns-then-has_stray_row
 returns c = search recount_stray
 
-returns-2 : tie.Need-returns-2
+returns-2 : tie.Need-returns-then-not-find_order
 returns-2 c = search (recount_cycle, not-true)
 
-returns-3 : tie.Need-returns-3
+returns-3 : tie.Need-returns
 returns-3 c = search (recount_accepted, not-false)
 
-find-order-requires : tie.Need-find-order-requires
+find-order-requires : tie.Need-find_order-requires
 find-order-requires c κs = search rows_below
 
-fill-counts-requires : tie.Need-fill-counts-requires
-fill-counts-requires c κs = (search rules, search rows_below, c.before.before.before.find-order.ensures.ordered c.before.before.if2.false)
+fill-counts-requires : tie.Need-fill_counts-requires
+fill-counts-requires c κs = (search rules, search rows_below, c.find_order.ensures.ordered c.if-not-find_order.false)
 
-count-set-bits-requires : tie.Need-count-set-bits-requires
+count-set-bits-requires : tie.Need-count_set_bits-requires
 count-set-bits-requires c κs = search recount_shape
 
 pub recount_core_spec : {M : Type 1} → statement M

@@ -4,10 +4,10 @@ use Rattle.recount.proofs.ValidateLaws.{valid_number, valid_number_not}
 use Rattle.recount.proofs.valid_number.Statement.{statement}
 use Rattle.recount.proofs.valid_number.Tie as tie
 
-returns : tie.Need-returns
+returns : tie.Need-returns-then-is_valid
 returns c = search valid_number
 
-returns-2 : tie.Need-returns-2
+returns-2 : tie.Need-returns
 returns-2 c = search valid_number_not
 
 pub valid_number_spec : {M : Type 1} → statement M

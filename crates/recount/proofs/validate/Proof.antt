@@ -5,17 +5,17 @@ use Rattle.recount.proofs.ValidateLaws.{validate_refused, validate_valid, valida
 use Rattle.recount.proofs.validate.Statement.{statement}
 use Rattle.recount.proofs.validate.Tie as tie
 
-returns : tie.Need-returns
-returns c = search (validate_refused _ _ _ c.before.before.shape-number.ensures)
+returns : tie.Need-returns-then-number-ne0
+returns c = search (validate_refused _ _ _ c.shape_number-number.ensures)
 
-is-valid-requires : tie.Need-is-valid-requires
-is-valid-requires c κs = shape_of _ _ _ c.before.shape-number.ensures c.if1.false
+is-valid-requires : tie.Need-is_valid-requires
+is-valid-requires c κs = shape_of _ _ _ c.shape_number-number.ensures c.if-number-ne0.false
 
-returns-2 : tie.Need-returns-2
-returns-2 c = search (validate_valid _ _ _ c.before.before.before.before.shape-number.ensures)
+returns-2 : tie.Need-returns-then-is_valid
+returns-2 c = search (validate_valid _ _ _ c.shape_number-number.ensures)
 
-returns-3 : tie.Need-returns-3
-returns-3 c = search (validate_not _ _ _ c.before.before.before.before.shape-number.ensures)
+returns-3 : tie.Need-returns
+returns-3 c = search (validate_not _ _ _ c.shape_number-number.ensures)
 
 pub validate_spec : {M : Type 1} → statement M
 validate_spec =
