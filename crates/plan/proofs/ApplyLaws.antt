@@ -36,14 +36,22 @@ abbrev pub edge_record : Bool → ℕ → ℕ → Record
 edge_record true u v = Insert u v
 edge_record false u v = Delete u v
 
+edge_number : (inserts : Bool) (n : ℕ) (s : Lent) (u v : ℕ) → (edit_answer (edge_edit inserts n u v) s).number ≡ number_on n s (edge_record inserts u v)
+unfolding number_on
+edge_number true n s u v = refl
+edge_number false n s u v = refl
+
+edge_left : (inserts : Bool) (n : ℕ) (s : Lent) (u v : ℕ) → edit_after (edge_edit inserts n u v) s ≡ left_by n s (edge_record inserts u v)
+edge_left true n s u v = refl
+edge_left false n s u v = refl
+
 -- the ways out of `apply_record`: r is what the edit answered, and t what it left
 module _ (inserts : Bool) (n : ℕ) (s : Lent) (x : Record) (u v : ℕ) (ex : x ≡ edge_record inserts u v) where
   pub record_edge : (r : Answer) → r ≡ edit_answer (edge_edit inserts n u v) s → r.number ≡ number_on n s x
-  unfolding number_on
-  record_edge r e = rw (e, ex) (elim inserts [ true ↦ refl | false ↦ refl ])
+  record_edge r e = rw (e, ex) (edge_number inserts n s u v)
 
   pub left_edge : (t : Lent) → t ≡ edit_after (edge_edit inserts n u v) s → t ≡ left_by n s x
-  left_edge t e = rw (e, ex) (elim inserts [ true ↦ refl | false ↦ refl ])
+  left_edge t e = rw (e, ex) (edge_left inserts n s u v)
 
 module _ (n : ℕ) (s : Lent) where
   pub record_malformed : (x : Record) → x ≡ Malformed → 14 ≡ number_on n s x

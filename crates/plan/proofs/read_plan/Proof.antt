@@ -4,18 +4,18 @@ use Rattle.plan.proofs.CallLaws.{read_stops, read_applied, read_ready}
 use Rattle.plan.proofs.read_plan.Statement.{statement}
 use Rattle.plan.proofs.read_plan.Tie as tie
 
-returns : tie.Need-returns
-returns c = read_stops _ _ _ _ c.before.before.read_number.ensures c.before.if1.true _ c.refused.ensures
+returns : tie.Need-returns-then-number-ne0
+returns c = read_stops _ _ _ _ c.read_number-number.ensures c.if-number-ne0.true _ c.refused.ensures
 
-returns-2 : tie.Need-returns-2
+returns-2 : tie.Need-returns
 returns-2 c =
-    let at = c.before.before.before.before in
-    read_applied _ _ _ _ at.before.read_number.ensures at.if1.false _ _ c.before.before.apply-core.ensures
+    let at = c.before in
+    read_applied _ _ _ _ at.read_number-number.ensures at.if-number-ne0.false _ _ c.apply_core.ensures
 
-apply-core-requires : tie.Need-apply-core-requires
+apply-core-requires : tie.Need-apply_core-requires
 apply-core-requires c κs =
-    let plan = c.before.before.before.before.before.before.args.plan.now in
-    read_ready _ _ plan _ c.before.before.read_number.ensures c.before.if1.false
+    let plan = c.args.plan.now in
+    read_ready _ _ plan _ c.read_number-number.ensures c.if-number-ne0.false
 
 pub read_plan_spec : {M : Type 1} → statement M
 read_plan_spec =

@@ -9,31 +9,31 @@ use Rattle.plan.proofs.ApplyLaws.{Applying, applying_start, applying_end, applyi
 use Rattle.plan.proofs.apply.apply.Statement.{statement}
 use Rattle.plan.proofs.apply.apply.Tie as tie
 
-abbrev invariant-loop : tie.invariant-loop
+abbrev invariant-loop : tie.invariant-loop-record
 invariant-loop n sheet₀ plan k₀ sheet k = (length sheet ≡ length sheet₀) × Applying n (lent sheet₀) plan k (lent sheet)
 
-abbrev decreases-loop : tie.decreases-loop
+abbrev decreases-loop : tie.decreases-loop-record
 decreases-loop n sheet₀ plan k₀ sheet k = length plan - 8 * k
 
-loop-holds : tie.Need-loop-init invariant-loop decreases-loop
+loop-holds : tie.Need-loop-record-init invariant-loop decreases-loop
 loop-holds c = (refl, applying_start _ _ _)
 
-loop-again : tie.Need-loop-preserved invariant-loop decreases-loop
+loop-again : tie.Need-loop-record-preserved invariant-loop decreases-loop
 loop-again c = (search rules, search applying_more)
 
-returns : tie.Need-returns invariant-loop decreases-loop
+returns : tie.Need-returns-in_default invariant-loop decreases-loop
 returns c = search applying_end
 
-returns-2 : tie.Need-returns-2 invariant-loop decreases-loop
+returns-2 : tie.Need-returns-then-number-ne0 invariant-loop decreases-loop
 returns-2 c = search applying_refused
 
-same_length : tie.Need-same-length invariant-loop decreases-loop
-same_length c = c.before.before.before.before.loop.invariant.0
+same_length : tie.Need-shape_of-sheet-in_default invariant-loop decreases-loop
+same_length c = c.loop-record.invariant.0
 
-add-t13 : tie.Need-overflow-add-t13 invariant-loop decreases-loop
-add-t13 c = omega (arith, c.before.before.before.before.before.before.before.before.before.loop.invariant.1.within)
+add-t13 : tie.Need-overflow_add-result invariant-loop decreases-loop
+add-t13 c = omega (arith, c.loop-record.invariant.1.within)
 
-loop-less : tie.Need-loop-smaller invariant-loop decreases-loop
+loop-less : tie.Need-loop-record-smaller invariant-loop decreases-loop
 loop-less c = search applying_less
 
 pub apply_spec : {M : Type 1} → statement M

@@ -7,29 +7,24 @@ use Rattle.plan.proofs.ApplyLaws.{sheet_long, all_refused, all_accepted}
 use Rattle.plan.proofs.apply.apply_core.Statement.{statement}
 use Rattle.plan.proofs.apply.apply_core.Tie as tie
 
-returns : tie.Need-returns
+returns : tie.Need-returns-then-answer-ne0
 returns c =
-    let ends = c.before.before.before.before.before.before.before.before.before in
-    let kept = ends.before.before.before in
-    let words = kept.before.before.before in
-    let start = words.before.before.before in
-    let a = start.args in
-    all_refused a.n a.sheet.now a.plan.now _ _ ends.apply.ensures c.before.before.before.before.before.if1.true _ _ _
-    _ (words.word_count.ensures ∙ sym start.requires.0.long) (rw greatest at (sheet_long a.n a.sheet.now start.requires.0)) kept.copy-words.ensures (omega arith)
-    c.before.before.copy-words2.ensures
+    let a = c.args in
+    all_refused a.n a.sheet.now a.plan.now _ _ c.apply-answer.ensures c.if-answer-ne0.true _ _ _
+    _ (c.word_count-words.ensures ∙ sym c.requires.0.long) (rw greatest at (sheet_long a.n a.sheet.now c.requires.0)) c.copy_words.ensures (omega arith)
+    c.copy_words-then-answer-ne0.ensures
 
-returns-2 : tie.Need-returns-2
+returns-2 : tie.Need-returns
 returns-2 c = search all_accepted
 
-copy-words-requires : tie.Need-copy-words-requires
+copy-words-requires : tie.Need-copy_words-requires
 copy-words-requires c κs =
-    let l = sheet_long _ _ c.before.before.before.before.before.requires.0 in
+    let l = sheet_long _ _ c.requires.0 in
     (omega arith, omega (arith, l, greatest))
 
-copy-words-requires-2 : tie.Need-copy-words-requires-2
+copy-words-requires-2 : tie.Need-copy_words-requires-then-answer-ne0
 copy-words-requires-2 c κs =
-    let start = c.before.before.before.before.before.before.before.before.before.before.before.before.before.before.before in
-    let l = sheet_long _ _ start.requires.0 in
+    let l = sheet_long _ _ c.requires.0 in
     (omega (arith, l, greatest), omega arith)
 
 pub apply_core_spec : {M : Type 1} → statement M

@@ -6,8 +6,8 @@ use Rattle.plan.proofs.check.read_number.Tie as tie
 
 returns : tie.Need-returns
 returns c =
-    let plan = c.before.before.before.before.before.args.plan.now in
-    read_first _ _ plan _ _ c.before.before.altering-sheet-number.ensures c.before.length-number.ensures _ c.first.ensures
+    let plan = c.args.plan.now in
+    read_first _ _ plan _ _ c.altering_sheet_number-of_sheet.ensures c.length_number-of_length.ensures _ c.first.ensures
 
 pub read_number_spec : {M : Type 1} → statement M
 read_number_spec = tie.close (tie.spec (λ c κs. search rules) (λ c κs. search rules) (λ c κs. search rules) returns)

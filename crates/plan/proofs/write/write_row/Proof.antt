@@ -9,36 +9,36 @@ use Rattle.plan.proofs.WriteLaws.{Writing, writing_start, writing_room, writing_
 use Rattle.plan.proofs.write.write_row.Statement.{statement}
 use Rattle.plan.proofs.write.write_row.Tie as tie
 
-abbrev invariant-loop : tie.invariant-loop
+abbrev invariant-loop : tie.invariant-loop-rest
 invariant-loop n sheet i plan₀ at place₀ rest₀ plan place rest = Writing n (lent sheet) i plan₀ at rest plan place
 
-abbrev decreases-loop : tie.decreases-loop
+abbrev decreases-loop : tie.decreases-loop-rest
 decreases-loop n sheet i plan₀ at place₀ rest₀ plan place rest = rest
 
-loop-holds : tie.Need-loop-init invariant-loop decreases-loop
+loop-holds : tie.Need-loop-rest-init invariant-loop decreases-loop
 loop-holds c = search writing_start
 
-lowest-bit-requires : tie.Need-lowest-bit-requires invariant-loop decreases-loop
+lowest-bit-requires : tie.Need-lowest_bit-requires invariant-loop decreases-loop
 lowest-bit-requires c κs = omega (arith, eqb-false)
 
-write-edge-requires : tie.Need-write-edge-requires invariant-loop decreases-loop
+write-edge-requires : tie.Need-write_edge-place-requires invariant-loop decreases-loop
 write-edge-requires c κs =
-    let start = c.before.before.before.before.before.before.before.before.requires in
-    let l = c.before.before.before.loop in
-    let low = c.before.lowest-bit.ensures in
+    let start = c.requires in
+    let l = c.loop-rest in
+    let low = c.lowest_bit.ensures in
     (omega (arith, start.0.high, start.1), low.within, writing_room _ _ _ _ _ _ _ _ l.invariant _ low)
 
-loop-less : tie.Need-loop-smaller invariant-loop decreases-loop
+loop-less : tie.Need-loop-rest-smaller invariant-loop decreases-loop
 loop-less c = search lowest_cleared_lt
 
-loop-again : tie.Need-loop-preserved invariant-loop decreases-loop
+loop-again : tie.Need-loop-rest-preserved invariant-loop decreases-loop
 loop-again c = search writing_more
 
-same_length : tie.Need-same-length invariant-loop decreases-loop
-same_length c = c.before.loop.invariant.known.long
+same_length : tie.Need-shape_of-plan invariant-loop decreases-loop
+same_length c = c.loop-rest.invariant.known.long
 
 returns : tie.Need-returns invariant-loop decreases-loop
-returns c = writing_done _ _ _ _ _ _ _ _ c.before.loop.invariant (omega (arith, eqb-true))
+returns c = writing_done _ _ _ _ _ _ _ _ c.loop-rest.invariant (omega (arith, eqb-true))
 
 pub write_row_spec : {M : Type 1} → statement M
 write_row_spec =

@@ -8,26 +8,26 @@ use Rattle.plan_theory.specs.PlanOf.{row_bytes}
 use Rattle.plan.proofs.write.write_rows.Statement.{statement}
 use Rattle.plan.proofs.write.write_rows.Tie as tie
 
-abbrev invariant-loop : tie.invariant-loop
+abbrev invariant-loop : tie.invariant-loop-i
 invariant-loop n sheet plan₀ place₀ i₀ plan place i = Pieces plan₀ 0 (row_bytes n (lent sheet)) n i plan place
 
-abbrev decreases-loop : tie.decreases-loop
+abbrev decreases-loop : tie.decreases-loop-i
 decreases-loop n sheet plan₀ place₀ i₀ plan place i = n - i
 
-loop-holds : tie.Need-loop-init invariant-loop decreases-loop
-loop-holds c = pieces_start _ _ _ _ (omega (arith, c.before.before.requires.1))
+loop-holds : tie.Need-loop-i-init invariant-loop decreases-loop
+loop-holds c = pieces_start _ _ _ _ (omega (arith, c.requires.1))
 
-loop-again : tie.Need-loop-preserved invariant-loop decreases-loop
+loop-again : tie.Need-loop-i-preserved invariant-loop decreases-loop
 loop-again c = search pieces_more
 
 returns : tie.Need-returns invariant-loop decreases-loop
-returns c = (put_written _ _ _ _ (pieces_done c.before.loop.invariant (omega arith))).1
+returns c = (put_written _ _ _ _ (pieces_done c.loop-i.invariant (omega arith))).1
 
-write-row-requires : tie.Need-write-row-requires invariant-loop decreases-loop
-write-row-requires c κs = (c.before.before.before.before.before.requires.0, omega arith, pieces_room c.before.before.loop.invariant (omega arith))
+write-row-requires : tie.Need-write_row-place-requires invariant-loop decreases-loop
+write-row-requires c κs = (c.requires.0, omega arith, pieces_room c.loop-i.invariant (omega arith))
 
-same_length : tie.Need-same-length invariant-loop decreases-loop
-same_length c = c.before.loop.invariant.long
+same_length : tie.Need-shape_of-plan invariant-loop decreases-loop
+same_length c = c.loop-i.invariant.long
 
 pub write_rows_spec : {M : Type 1} → statement M
 write_rows_spec =
