@@ -33,10 +33,8 @@ pub(crate) fn decimal_of(word: &[u8]) -> Decimal {
         return Decimal::No;
     }
     let mut decimal = Decimal::Is(0);
-    let mut k = 0;
-    while k < word.len() {
-        decimal = with_digit(decimal, word[k]);
-        k += 1;
+    for byte in word {
+        decimal = with_digit(decimal, *byte);
     }
     decimal
 }

@@ -1,7 +1,12 @@
-// Lines of words and decimals from standard input, for the programs `cases` and `paths`: the input, its lines, the words of a line, the
-// decimals that words write, and what a line says; and what both programs print. A line feed ends a line, and one space stands between
-// two words.
-ghost use Rattle.std.specs.Prelude.{◌≤◌, length};
+// Lines of words and decimals from standard input, for the programs: the input, its lines, the words of a line, the decimals that words
+// write, and what a line says; and what the programs print. A line feed ends a line, and one space stands between two words.
+#![tactic(auto)]
+
+ghost use Rattle.std.specs.Prelude.{IfOk, ◌<◌, ◌≤◌, length, take};
+ghost use Rattle.std.specs.Io.KnownBytes.{Consumes, IsAtEnd};
+
+use std::io;
+use std::io::Read;
 
 mod digits;
 mod output;
@@ -21,29 +26,54 @@ const SLASH: u8 = b'/';
 // The greatest number that a byte holds.
 pub const GREATEST_BYTE: usize = 255;
 
+// Internal: puts the bytes that a reader gives at the start of a buffer, until the reader ends or the buffer is full: how many there are.
+pub fn fill<R: Read>(reader: &mut R, buffer: &mut [u8]) -> io::Result<usize>
+    ensures bound { IfOk result (λ count. count ≤ length buffer.new) }
+    ensures bytes { IfOk result (λ count. Consumes (R.remaining reader.old) (R.remaining reader.new) (take count buffer.new)) }
+    ensures end { IfOk result (λ count. count < length buffer.new → IsAtEnd (R.remaining reader.new)) }
+{
+    let mut count = 0;
+    while count < buffer.len() {
+        let more = reader.read(&mut buffer[count..])?;
+        if more == 0 {
+            break;
+        }
+        count += more;
+    }
+    Ok(count)
+}
+
 // Internal: the bytes of standard input, in a buffer that has to be longer than they are. Where they fill it, a line says so, and none is
 // taken.
-pub fn input<'a>(buffer: &'a mut [u8]) -> &'a [u8] {
-    let count = io::read_full(libc::STDIN_FILENO, buffer);
+pub fn input<'a>(rt: &(impl Input + Print), buffer: &'a mut [u8]) -> io::Result<&'a [u8]> {
+    let count = fill(&mut rt.reader(), buffer)?;
     let bytes = &buffer[..];
     if count < bytes.len() {
-        return &bytes[..count];
+        return Ok(&bytes[..count]);
     }
-    print_line(b"the input is too long");
-    &bytes[..0]
+    print_line(rt, b"the input is too long")?;
+    Ok(&bytes[..0])
+}
+
+// The place of the first separator; the end of the text if there is none.
+fn place(text: &[u8], separator: u8) -> usize
+    ensures { result ≤ length text.now }
+{
+    text.iter()
+        .position(|byte| *byte == separator)
+        .unwrap_or(text.len())
 }
 
 // The bytes before the first separator; all of them if there is none.
 fn first<'a>(text: &'a [u8], separator: u8) -> &'a [u8] {
-    let end = bytes::scan::find(text, 0, text.len(), separator);
-    &text[0..end]
+    &text[..place(text, separator)]
 }
 
 // The place after the first separator; the end of the text if there is none.
 fn after(text: &[u8], separator: u8) -> usize
     ensures { result ≤ length text.now }
 {
-    let end = bytes::scan::find(text, 0, text.len(), separator);
+    let end = place(text, separator);
     if end < text.len() {
         return end + 1;
     }
@@ -53,11 +83,8 @@ fn after(text: &[u8], separator: u8) -> usize
 // Internal: the bytes after the first k separators; none if there are fewer.
 pub fn skip<'a>(text: &'a [u8], separator: u8, k: usize) -> &'a [u8] {
     let mut rest = text;
-    let mut left = k;
-    while 0 < left {
-        let start = after(rest, separator);
-        rest = &rest[start..];
-        left -= 1;
+    for _ in 0..k {
+        rest = &rest[after(rest, separator)..];
     }
     rest
 }
@@ -70,15 +97,7 @@ pub fn part<'a>(text: &'a [u8], separator: u8, k: usize) -> &'a [u8] {
 
 // Internal: how many separators there are.
 pub fn count(text: &[u8], separator: u8) -> usize {
-    let mut found = 0;
-    let mut k = 0;
-    while k < text.len() {
-        if text[k] == separator {
-            found += 1;
-        }
-        k += 1;
-    }
-    found
+    text.iter().filter(|byte| **byte == separator).count()
 }
 
 // Internal: what stands after the first word of a line.
@@ -115,12 +134,10 @@ pub fn decimals(line: &[u8]) -> Four {
 
 // Whether each word after the first writes a decimal.
 fn has_decimals(line: &[u8]) -> bool {
-    let mut k = words(line);
-    while 0 < k {
-        if let Decimal::No = digits::decimal_of(part(line, SPACE, k)) {
+    for k in 0..words(line) {
+        if let Decimal::No = digits::decimal_of(part(line, SPACE, k + 1)) {
             return false;
         }
-        k -= 1;
     }
     true
 }
@@ -128,7 +145,7 @@ fn has_decimals(line: &[u8]) -> bool {
 // Whether a line has a form: the form's first word, and then as many decimals as the form says, or any number of them if it says `*`, or
 // any text if it says nothing.
 fn has_form(line: &[u8], form: &[u8]) -> bool {
-    if !check::same(first(line, SPACE), first(form, SPACE)) {
+    if first(line, SPACE) != first(form, SPACE) {
         return false;
     }
     if words(form) == 0 {
@@ -140,11 +157,12 @@ fn has_form(line: &[u8], form: &[u8]) -> bool {
 // Internal: which of some forms a line has, from 0 up; how many forms there are if it has none. A `/` ends each form.
 pub fn form(line: &[u8], forms: &[u8]) -> usize {
     let most = count(forms, SLASH);
-    let mut k = 0;
-    while k < most && !has_form(line, part(forms, SLASH, k)) {
-        k += 1;
+    for k in 0..most {
+        if has_form(line, part(forms, SLASH, k)) {
+            return k;
+        }
     }
-    k
+    most
 }
 
 // Internal: puts the decimals after the first word of a line at the start of some words: whether they fit.
@@ -153,10 +171,8 @@ pub fn put_words(line: &[u8], buffer: &mut [u64]) -> bool {
     if buffer.len() < count {
         return false;
     }
-    let mut k = 0;
-    while k < count {
+    for k in 0..count {
         buffer[k] = decimal(line, k + 1) as u64;
-        k += 1;
     }
     true
 }
@@ -167,14 +183,12 @@ fn put_bytes(line: &[u8], buffer: &mut [u8]) -> bool {
     if buffer.len() < count {
         return false;
     }
-    let mut k = 0;
-    while k < count {
+    for k in 0..count {
         let value = decimal(line, k + 1);
         if GREATEST_BYTE < value {
             return false;
         }
         buffer[k] = value as u8;
-        k += 1;
     }
     true
 }
@@ -200,10 +214,8 @@ pub fn put_text(text: &[u8], buffer: &mut [u8]) -> bool {
     if buffer.len() < text.len() {
         return false;
     }
-    let mut k = 0;
-    while k < text.len() {
-        buffer[k] = text_byte(text[k]);
-        k += 1;
+    for (k, byte) in text.iter().enumerate() {
+        buffer[k] = text_byte(*byte);
     }
     true
 }
