@@ -1,4 +1,6 @@
 // What every call answers, and the numbers by which calls refuse.
+#![tactic(auto)]
+
 ghost use Rattle.std.specs.Prelude.{◌≡◌};
 ghost use Rattle.answer.specs.Answers.{answer};
 

@@ -1,6 +1,8 @@
 // The counts by blocks of 16 columns, written or tested, on sheets of 16 vertices or more: the counts from a vertex to a block's columns are
 // added up, or taken off the stored ones, at once, from those successors alone that lead to one of the columns. The columns from c on
 // are the 16 of the block that begins there.
+#![tactic(auto)]
+
 ghost use Rattle.std.specs.Prelude.{◌≡◌, ℕ, ◌+◌, ◌^◌, ◌<◌, ◌≤◌, length};
 ghost use Rattle.word.specs.Wrap.{plus, minus};
 ghost use Rattle.answer.specs.Table.{Reflects};

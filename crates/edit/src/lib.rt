@@ -1,6 +1,8 @@
 // The four edits of a sheet: one edge, or the edges at one vertex by two masks, inserted or deleted. They answer every n, every length,
 // all words and all other arguments. A refusal changes no word and has the value 0; an accepted edit's value is the number of set bits in all
 // rows afterwards.
+#![tactic(auto)]
+
 ghost use Rattle.std.specs.Prelude.{◌≡◌};
 ghost use Rattle.sheet_theory.specs.Layout.{Shape};
 ghost use Rattle.sheet_theory.specs.Lent.{lent};

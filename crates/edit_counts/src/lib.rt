@@ -2,6 +2,8 @@
 // before the first word is written.
 // With x the count from i to v, y that from v to j, and F and T the sums over the predecessors and the successors, an insertion adds
 // x T + F (T + y) to the count from i to j, and a deletion (F - x) T + F (-y).
+#![tactic(auto)]
+
 ghost use Rattle.std.specs.Prelude.{◌≡◌, ◌+◌, ◌%◌, ◌≤◌, ◌<◌, ◌^◌, length};
 ghost use Rattle.word.specs.Bit.{bit};
 ghost use Rattle.graph.specs.Update.{from_sum};

@@ -1,5 +1,7 @@
 // The C interface: each call on a sheet under a C name, with the contract of the call that it forwards to. include/lugloquat.h
 // declares what this file exports; a slice crosses as a pointer and a number of words or bytes.
+#![tactic(auto)]
+
 ghost use Rattle.std.specs.Prelude.{◌≡◌, length};
 ghost use Rattle.sheet_theory.specs.Lent.{lent};
 ghost use Rattle.sheet_theory.specs.Calls.{empty_answer, empty_after, path_count_answer};

@@ -2,6 +2,8 @@
 // that there is a cycle. The search goes along edges to vertices that are left until it is at a vertex from which no edge leads to one.
 // That vertex is taken away and entered in the order, and the search goes on from the vertex before it. The vertices left are a mask, so
 // a vertex is found by one step, and there are at most 2 n steps where there is no cycle.
+#![tactic(auto)]
+
 ghost use Rattle.std.specs.Prelude.{◌<◌, ◌^◌, ◌≡◌, length, set};
 ghost use Rattle.sheet_theory.specs.Layout.{most_vertices, Shape};
 ghost use Rattle.sheet_theory.specs.Internal.{RowsBelow};

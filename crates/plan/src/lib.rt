@@ -1,5 +1,7 @@
 // Plans: edits of one edge each, written by a grower, read into a sheet, and the edges of a sheet written as a plan. The calls of this
 // file answer every n, every length, all words and all bytes.
+#![tactic(auto)]
+
 ghost use Rattle.sheet_theory.specs.Lent.{lent};
 ghost use Rattle.plan_theory.specs.Calls.{ReadPlan, WritePlan};
 

@@ -12,7 +12,6 @@ use Rattle.sums.specs.Sum.{sum}
 use Rattle.sums.specs.Gather.{gather}
 use Rattle.sums.proofs.SumLaws.{sum_cong, sum_far, mul_sum}
 use Rattle.sums.proofs.GatherLaws.{gather_length, gather_place}
-use Rattle.word.specs.Bit.{bit}
 use Rattle.word.proofs.BitLaws.{bit_cases}
 use Rattle.text.specs.Text.{written}
 use Rattle.text.proofs.TextLaws.{written_length, written_after}

@@ -1,5 +1,7 @@
 // Questions of a sheet: whether there is a path without an edge, the path of a rank, and the rank of a path. The calls of this
 // file answer every n, every length, all words and all bytes.
+#![tactic(auto)]
+
 ghost use Rattle.std.specs.Prelude.{◌≡◌, ◌<◌, length};
 ghost use Rattle.sheet_theory.specs.Layout.{Shape};
 ghost use Rattle.sheet_theory.specs.Lent.{lent};

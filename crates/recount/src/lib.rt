@@ -1,5 +1,7 @@
 // The counts of a sheet worked out afresh from its rows, and the test whether a sheet is valid. The calls of this file answer every n,
 // every length and all words.
+#![tactic(auto)]
+
 ghost use Rattle.std.specs.Prelude.{◌≡◌, []};
 ghost use Rattle.answer.specs.Table.{First, Reflects};
 ghost use Rattle.sheet_theory.specs.Layout.{Shape};

@@ -1,5 +1,7 @@
 // Sheets of path counts: the adjacency rows of an acyclic graph and the number of paths between every two vertices, in the
 // words of a lent slice. The calls of this file answer every n, every length and all words.
+#![tactic(auto)]
+
 ghost use Rattle.std.specs.Prelude.{◌≡◌};
 ghost use Rattle.sheet_theory.specs.Lent.{lent};
 ghost use Rattle.sheet_theory.specs.Calls.{empty_answer, empty_after, path_count_answer};

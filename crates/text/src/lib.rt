@@ -1,4 +1,6 @@
 // Text in a buffer of bytes: some bytes from a place on, and the two digits of a number below 100.
+#![tactic(auto)]
+
 ghost use Rattle.std.specs.Prelude.{◌≡◌, ◌+◌, ◌/◌, ◌%◌, ◌≤◌, ◌<◌, length};
 ghost use Rattle.text.specs.Text.{Put};
 

@@ -1,4 +1,6 @@
 // The bits of a 64-bit word by shifts and masks, and arithmetic modulo 2 ^ 64. Assumes nothing.
+#![tactic(auto)]
+
 ghost use Rattle.std.specs.Prelude.{◌≡◌, ◌+◌, ◌-◌, ◌*◌, ◌%◌, ◌^◌, ◌<◌, ◌≤◌, nat_lt};
 ghost use Rattle.word.specs.Bit.{word_bits, has_bit, with_bit, without_bit, bit_count, Lowest, Highest, LowestCleared};
 ghost use Rattle.word.specs.Wrap.{minus};

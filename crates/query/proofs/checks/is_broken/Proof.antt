@@ -3,7 +3,7 @@ use mathlib.Core.Logic.{◌↔◌}
 use Prim.Native.Nat.{◌-◌, ◌≤◌}
 use native.Mathlib.Omega.{arith}
 use borrow.Author.Rules.{rules}
-use borrow.Author.Tests.{not-true, not-false}
+use borrow.Author.Tests.{not-true}
 use lib.ListN.{length, drop}
 use Rattle.query_theory.specs.Rank.{Gap}
 use Rattle.query.proofs.PathLaws.{broken_none, broken_long, gap_found, gap_more, gap_none}
