@@ -1,6 +1,7 @@
 // The public calls, by the lines of the script.
 use crate::{BYTES, show};
 use sheet::{Answer, Sheet};
+use std::io;
 
 // What comes of a line.
 #[derive(Drop)]
@@ -85,12 +86,12 @@ pub fn quiet(line: &[u8], n: usize, words: &mut [u64], bytes: &mut [u8]) -> Outc
 }
 
 // A call that writes no word, of the sheet that the library makes, with its line.
-pub fn made(line: &[u8], bytes: &mut [u8]) -> Outcome {
+pub fn made(rt: &impl Print, line: &[u8], bytes: &mut [u8]) -> io::Result<Outcome> {
     let sheet = Sheet::new();
     let words = sheet.words;
     let Outcome::Asked(a) = ask(line, Sheet::VERTICES, &words, bytes) else {
-        return Outcome::Other;
+        return Ok(Outcome::Other);
     };
-    show::answer(line, a);
-    Outcome::Done
+    show::answer(rt, line, a)?;
+    Ok(Outcome::Done)
 }

@@ -1,8 +1,9 @@
 // What the calls are lent, and the commands that change it.
 use crate::{BYTES, WORDS, show};
+use std::io;
 
 // The number of vertices that the calls are told, and how many words and bytes they are lent.
-#[derive(Drop)]
+#[derive(Clone, Copy)]
 pub struct Lent {
     pub n: usize,
     pub words: usize,
@@ -75,32 +76,35 @@ fn keep(lent: Lent, words: &[u64; WORDS], kept: &mut [u64; WORDS]) -> Step {
 }
 
 // A line that says whether the lent words are those kept.
-fn same(lent: Lent, words: &[u64], kept: &[u64]) -> Step {
+fn same(rt: &impl Print, lent: Lent, words: &[u64], kept: &[u64]) -> io::Result<Step> {
     let count = lent.words;
     if words.len() < count {
-        return Step::Other;
+        return Ok(Step::Other);
     }
-    show::same(b"same words ", kept, &words[0..count]);
-    Step::Next(lent)
+    show::same(rt, b"same words ", kept, &words[0..count])?;
+    Ok(Step::Next(lent))
 }
 
 // The commands that change what the calls are lent, or keep it.
 pub fn set(
+    rt: &impl Print,
     line: &[u8],
     lent: Lent,
     words: &mut [u64; WORDS],
     bytes: &mut [u8; BYTES],
     kept: &mut [u64; WORDS],
-) -> Step {
+) -> io::Result<Step> {
     let x = script::decimals(line);
-    match script::form(line, b"n 1/words 2/put */bytes 2/plan/keep 0/same 0/") {
-        0 => vertices(lent, x.0),
-        1 => lend_words(lent, words, x.0, x.1),
-        2 => put(script::tail(line), lent, words, x.0),
-        3 => lend_bytes(lent, bytes, x.0, x.1),
-        4 => plan(script::tail(line), lent, bytes),
-        5 => keep(lent, words, kept),
-        6 => same(lent, words, kept),
-        _ => Step::Other,
-    }
+    Ok(
+        match script::form(line, b"n 1/words 2/put */bytes 2/plan/keep 0/same 0/") {
+            0 => vertices(lent, x.0),
+            1 => lend_words(lent, words, x.0, x.1),
+            2 => put(script::tail(line), lent, words, x.0),
+            3 => lend_bytes(lent, bytes, x.0, x.1),
+            4 => plan(script::tail(line), lent, bytes),
+            5 => keep(lent, words, kept),
+            6 => same(rt, lent, words, kept)?,
+            _ => Step::Other,
+        },
+    )
 }

@@ -23,6 +23,8 @@
 //                          is how many of the lent bytes they get, and what `rank` is asked is the path.
 //     quiet NAME ..        a call without its lines
 //     made NAME ..         a call that writes no word, of the sheet of 64 vertices that `Sheet::new()` makes
+#![tactic(auto)]
+
 mod buffer;
 mod calls;
 mod lent;
@@ -30,87 +32,118 @@ mod show;
 
 use calls::Outcome;
 use lent::{Lent, Step};
+use std::io;
 
 // The words of a sheet of 65 vertices, were there one: no case lends more.
 pub const WORDS: usize = 4290;
+
+// The bytes of the buffer for the script, which has to be longer than the script.
+const INPUT: usize = 65536;
 
 // One record more than the longest plan has: no case lends more bytes.
 pub const BYTES: usize = 32776;
 
 // The commands that print, and the calls: an arm for each form, in the same order.
-fn show_or_call(line: &[u8], n: usize, words: &mut [u64], bytes: &mut [u8]) -> Outcome {
+fn show_or_call(
+    rt: &impl Print,
+    line: &[u8],
+    n: usize,
+    words: &mut [u64],
+    bytes: &mut [u8],
+) -> io::Result<Outcome> {
     match script::form(
         line,
         b"heading/show_sizes 0/show_words 0/show_bytes 0/show_text 0/show_limits 0/quiet/made/",
     ) {
-        0 => script::print_line(script::tail(line)),
-        1 => show::sizes(n, words.len()),
-        2 => script::print_words(words),
-        3 => script::print_bytes(bytes),
-        4 => script::print_line(bytes),
-        5 => show::limits(),
-        6 => return calls::quiet(script::tail(line), n, words, bytes),
-        7 => return calls::made(script::tail(line), bytes),
-        _ => return calls::answer(line, n, words, bytes),
+        0 => script::print_line(rt, script::tail(line))?,
+        1 => show::sizes(rt, n, words.len())?,
+        2 => script::print_words(rt, words)?,
+        3 => script::print_bytes(rt, bytes)?,
+        4 => script::print_line(rt, bytes)?,
+        5 => show::limits(rt)?,
+        6 => return Ok(calls::quiet(script::tail(line), n, words, bytes)),
+        7 => return calls::made(rt, script::tail(line), bytes),
+        _ => return Ok(calls::answer(line, n, words, bytes)),
     }
-    Outcome::Done
+    Ok(Outcome::Done)
 }
 
 // The same on the parts of the buffers that are lent.
-fn on_lent(line: &[u8], lent: Lent, words: &mut [u64], bytes: &mut [u8]) -> Outcome {
+fn on_lent(
+    rt: &impl Print,
+    line: &[u8],
+    lent: Lent,
+    words: &mut [u64],
+    bytes: &mut [u8],
+) -> io::Result<Outcome> {
     let count = lent.words;
     let length = lent.bytes;
     if words.len() < count {
-        return Outcome::Other;
+        return Ok(Outcome::Other);
     }
     if bytes.len() < length {
-        return Outcome::Other;
+        return Ok(Outcome::Other);
     }
-    show_or_call(line, lent.n, &mut words[0..count], &mut bytes[0..length])
+    show_or_call(
+        rt,
+        line,
+        lent.n,
+        &mut words[0..count],
+        &mut bytes[0..length],
+    )
 }
 
 // The lines of a call: its line of the script with the answer, and, if it may write words, whether they are as before.
-fn report(line: &[u8], outcome: Outcome, lent: Lent, before: &[u64], words: &[u64]) -> Step {
+fn report(
+    rt: &impl Print,
+    line: &[u8],
+    outcome: Outcome,
+    lent: Lent,
+    before: &[u64],
+    words: &[u64],
+) -> io::Result<Step> {
     match outcome {
         Outcome::Edited(a) => {
-            show::answer(line, a);
-            show::same(b"unchanged ", before, words);
+            show::answer(rt, line, a)?;
+            show::same(rt, b"unchanged ", before, words)?;
         }
-        Outcome::Asked(a) => show::answer(line, a),
+        Outcome::Asked(a) => show::answer(rt, line, a)?,
         Outcome::Done => {}
-        Outcome::Other => return Step::Other,
+        Outcome::Other => return Ok(Step::Other),
     }
-    Step::Next(lent)
+    Ok(Step::Next(lent))
 }
 
 // A line of the script obeyed.
 fn obey(
+    rt: &impl Print,
     line: &[u8],
     lent: Lent,
     words: &mut [u64; WORDS],
     bytes: &mut [u8; BYTES],
     kept: &mut [u64; WORDS],
-) -> Step {
+) -> io::Result<Step> {
     if line.len() == 0 || line[0] == b'#' {
-        return Step::Next(lent);
+        return Ok(Step::Next(lent));
     }
-    if let Step::Next(next) = lent::set(line, lent, words, bytes, kept) {
-        return Step::Next(next);
+    if let Step::Next(next) = lent::set(rt, line, lent, words, bytes, kept)? {
+        return Ok(Step::Next(next));
     }
     let before = *words;
-    let outcome = on_lent(line, lent, words, bytes);
-    report(line, outcome, lent, &before, words)
+    let outcome = on_lent(rt, line, lent, words, bytes)?;
+    report(rt, line, outcome, lent, &before, words)
 }
 
 // The end of a script after k lines: where some text is left, its first line is no command, or no line feed ends it.
-fn end(rest: &[u8], k: u64) {
-    if 0 < rest.len() {
-        script::print_last(b"not a command: line ", std::num::wrapping_add_u64(k, 1));
+fn end(rt: &impl Print, rest: &[u8], k: u64) -> io::Result<()> {
+    if rest.len() == 0 {
+        return Ok(());
     }
+    script::print_last(rt, b"not a command: line ", k.wrapping_add(1))
 }
 
 // The lines of a script, obeyed in order.
-fn run(text: &[u8]) {
+fn run(rt: &impl Print, text: &[u8]) -> io::Result<()> {
     let mut words = [0u64; WORDS];
     let mut kept = [0u64; WORDS];
     let mut bytes = [0u8; BYTES];
@@ -123,16 +156,16 @@ fn run(text: &[u8]) {
     let mut k = 0;
     while k < lines {
         let line = script::part(text, script::LINE_FEED, k);
-        let Step::Next(next) = obey(line, lent, &mut words, &mut bytes, &mut kept) else {
+        let Step::Next(next) = obey(rt, line, lent, &mut words, &mut bytes, &mut kept)? else {
             break;
         };
         lent = next;
         k += 1;
     }
-    end(script::skip(text, script::LINE_FEED, k), k as u64);
+    end(rt, script::skip(text, script::LINE_FEED, k), k as u64)
 }
 
-fn main() {
-    let mut input = io::large_buffer();
-    run(script::input(&mut input));
+fn main(rt: HostRuntime) -> io::Result<()> {
+    let mut buffer = [0u8; INPUT];
+    run(&rt, script::input(&rt, &mut buffer)?)
 }

@@ -1,4 +1,6 @@
 // The listing of a plan, as text in a buffer that always suffices, for all bytes; and a buffer for the input.
+#![tactic(auto)]
+
 ghost use Rattle.std.specs.Prelude.{◌≡◌, length, replicate};
 ghost use Rattle.text.specs.Text.{written};
 ghost use Rattle.listing_theory.specs.Listing.{listing, input_bytes};

@@ -1,10 +1,13 @@
 // Reads a plan from standard input and prints its listing.
-use listing::Listing;
+#![tactic(auto)]
 
-fn main() {
+use listing::Listing;
+use std::io;
+
+fn main(rt: HostRuntime) -> io::Result<()> {
     let mut input = listing::input_buffer();
-    let count = io::read_full(libc::STDIN_FILENO, &mut input);
+    let count = script::fill(&mut rt.reader(), &mut input)?;
     let mut out = [0u8; Listing::BYTES];
     let length = listing::list(&input[..count], &mut out);
-    io::write_all(libc::STDOUT_FILENO, &out[..length]);
+    rt.write_all(&out[..length])
 }

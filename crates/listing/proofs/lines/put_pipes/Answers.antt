@@ -1,0 +1,5 @@
+use Rattle.listing_theory.proofs.LineLaws.{pipes_put}
+use Rattle.listing.proofs.lines.put_pipes.Goals as goal
+
+pub returns : goal.returns
+returns c = search pipes_put

@@ -1,0 +1,5 @@
+use Rattle.listing_theory.proofs.LineLaws.{refused_put}
+use Rattle.listing.proofs.lines.put_refused.Goals as goal
+
+pub returns : goal.returns
+returns c = search refused_put
