@@ -15,7 +15,7 @@ import os
 import re
 import sys
 
-DECLARED = re.compile(r"(?m)^( *)((?:(?:pub|abbrev|unfoldable|data|record|opaque)\s+)*)([^\s(){}.;,@\"]+)((?: \{[^{}]*\}| \([^()]*(?:\([^()]*\)[^()]*)*\))*) : ")
+DECLARED = re.compile(r"(?m)^( *)((?:(?:pub|abbrev|unfoldable|data|record|opaque)\s+)*)([^\s(){}.;,@\"]+)((?: \{[^{}]*\}| \([^()]*(?:\([^()]*\)[^()]*)*\))*) :(?= |$)")
 NAME = re.compile(r"[^\W\d][\w'?-]*")
 # Names that would fall together with another's, and what they are called
 CHOSEN = {"pathCount-exact": "exact_path_count", "bit-and": "bit_of_and", "bit-or": "bit_of_or"}

@@ -89,13 +89,13 @@ module _ (n : ℕ) (s : Lent) where
     differs = elim (ℕ_discrete (count i u * count v j % 2 ^ 64) (count i j)) [ yes e ↦ inr (e, rw (eq-eqb _ _ e)) | no d ↦ inl (d, rw (ne_eqb _ _ d)) ]
 
     -- the value is 1 if the product differs from the count, and 0 if not
-    pub reaches-without-words :
+    pub reaches_without_words :
         let r = reaches_without_answer n s i j u v in
         First (sized n s (named there)) r.number
         × (r.place ≡ 0)
         × (r.number ≡ 0 → ((¬ (count i u * count v j % 2 ^ 64 ≡ count i j)) × (r.value ≡ 1)) ⊎ ((count i u * count v j % 2 ^ 64 ≡ count i j) × (r.value ≡ 0)))
         × (¬ (r.number ≡ 0) → r.value ≡ 0)
-    reaches-without-words = (
+    reaches_without_words = (
       first_under (sized n s []) (vertex_conditions n i j (vertex_conditions n u v there)) (named there) _ (four there _) (reaches_without_first n s i j u v),
       refl,
       λ z. let e = decided_new _ (reaches_without n s i j u v) 0 z in elim differs [ inl d ↦ inl (d.0, e ∙ d.1) | inr d ↦ inr (d.0, e ∙ d.1) ],
@@ -140,13 +140,13 @@ module _ (n : ℕ) (s : Lent) where
         r.number ≡ 0 → (((l : List ℕ) × IsPath n (λ a b. edge a b - delta a u * delta b v) i j l) × (r.value ≡ 1))
         ⊎ ((¬ ((l : List ℕ) × IsPath n (λ a b. edge a b - delta a u * delta b v) i j l)) × (r.value ≡ 0))
     reaches_without_valid_words valid z =
-        let f = subst (First (sized n s (named there))) z reaches-without-words.0 in
+        let f = subst (First (sized n s (named there))) z reaches_without_words.0 in
         let d = first_not (sized n s (named there)) 0 f 3 refl in
         let g = first_not (sized n s (named there)) 0 f 7 refl in
         let iff = reaches_without_iff n s valid i j u v
         (lt_of_not-le (λ l. d (inl l))) (lt_of_not-le (λ l. d (inr (inl l)))) (lt_of_not-le (λ l. d (inr (inr (inl l))))) (lt_of_not-le (λ l. d (inr (inr (inr l)))))
         (lt_of_not-le (λ l. g (omega arith))) in
-        elim (reaches-without-words.2 z) [
+        elim (reaches_without_words.2 z) [
           | inl c ↦ inl (others_path.1 (iff.0.0 (answer_ext _ _ z refl c.1)), c.1)
           | inr c ↦ inr (λ p. iff.1.0 (answer_ext _ _ z refl c.1) (others_path.0 p), c.1)
         ]
@@ -169,28 +169,28 @@ module _ (n : ℕ) (s : Lent) where
     module _ (before : List ℕ) where
       -- 3: one of the two is n or more. 10: the buffer is under n bytes. 11: k is not below the count. 9: the walk does not arrive. The value
       -- is how many vertices the walk has.
-      pub unrank-words :
+      pub unrank_words :
           let r = unrank_answer n s i j k (length before) in
           let p = walked edge count j n n i k in
           First (sized n s (((n ≤ i) ⊎ (n ≤ j)) gives 3 ∷ (length before < n) gives 10 ∷ (count i j ≤ k) gives 11 ∷ (p ≡ []) gives 9 ∷ [])) r.number
           × (r.place ≡ 0)
           × (r.number ≡ 0 → r.value ≡ length p)
           × (¬ (r.number ≡ 0) → r.value ≡ 0)
-      unrank-words = (unrank_first n s i j k (length before), refl, decided_new _ _ 0, decided_old _ _ 0)
+      unrank_words = (unrank_first n s i j k (length before), refl, decided_new _ _ 0, decided_old _ _ 0)
 
       -- the walk fills the first places of the buffer, and the rest are unchanged; a refusal changes none
-      pub unrank-leaves-words :
+      pub unrank_leaves_words :
           let r = unrank_answer n s i j k (length before) in
           let after = unrank_after n s i j k before in
           let p = walked edge count j n n i k in
           (r.number ≡ 0 → (length after ≡ length before) × ((x : ℕ) → length p ≤ x → get_or after x 0 ≡ get_or before x 0)
           × ((x : ℕ) → x < length p → get_or after x 0 ≡ get_or p x 0))
           × (¬ (r.number ≡ 0) → after ≡ before)
-      unrank-leaves-words = (
+      unrank_leaves_words = (
         λ z.
             let p = walked edge count j n n i k in
             let e : unrank_after n s i j k before ≡ written p before = decided_new _ (written p before) before z in
-            let room = first_not (unrank_conditions n s i j k (length before)) 0 (subst (First (unrank_conditions n s i j k (length before))) z unrank-words.0) 10 refl in
+            let room = first_not (unrank_conditions n s i j k (length before)) 0 (subst (First (unrank_conditions n s i j k (length before))) z unrank_words.0) 10 refl in
             rw e (written_length p before (omega (arith, walked_short, room)), written_after p before, written_at p before),
         decided_old _ _ before,
       )
@@ -203,7 +203,7 @@ module _ (n : ℕ) (s : Lent) where
         unrank_arrives n s valid i j k (length before),
         λ z.
             let cs : Conditions = unrank_conditions n s i j k (length before) in
-            let f = subst (First cs) z unrank-words.0 in
+            let f = subst (First cs) z unrank_words.0 in
             let d = first_not cs 0 f 3 refl in
             let w = walked_path n edge count valid.acyclic (edge_le s.words) (valid_count n s valid) i j k
             (lt_of_not-le (λ l. d (inl l))) (lt_of_not-le (λ l. d (inr l))) (lt_of_not-le (first_not cs 0 f 11 refl)) in
@@ -256,13 +256,13 @@ module _ (n : ℕ) (s : Lent) where
     given_first k = first_cong 3 (Broken n s.words p gives 12 ∷ []) (NoPath gives 12 ∷ []) k (some_no_vertex_places n p) (first_cong 12 [] [] k no_path_iff (λ f. f))
 
     -- the value is the sum, modulo 2 ^ 64, of the counts to the last vertex that are passed over from each vertex to the next
-    pub rank-words :
+    pub rank_words :
         let r = rank_answer n s p in
         First (sized n s given) r.number
         × (r.place ≡ 0)
         × (r.number ≡ 0 → r.value ≡ sum (length p - 1) (λ x. sum (at (suc x)) (λ b. edge (at x) b * count b last)) % 2 ^ 64)
         × (¬ (r.number ≡ 0) → r.value ≡ 0)
-    rank-words = (
+    rank_words = (
       first_under (sized n s []) (path_conditions n s p) given _ (given_first _) (rank_first n s p),
       refl,
       λ z.

@@ -16,7 +16,7 @@ use Rattle.query_theory.specs.Walk.{walked}
 use Rattle.query_theory.specs.ReachesWithout.{reaches_without_answer}
 use Rattle.query_theory.specs.Unrank.{unrank_answer, unrank_after}
 use Rattle.query_theory.specs.Rank.{rank_answer}
-use Rattle.query_theory.proofs.InWords.{reaches-without-words, reaches_without_valid_words, unrank-words, unrank-leaves-words, unrank_valid_words, rank-words, rank_valid_words}
+use Rattle.query_theory.proofs.InWords.{reaches_without_words, reaches_without_valid_words, unrank_words, unrank_leaves_words, unrank_valid_words, rank_words, rank_valid_words}
 use Rattle.starred.specs.EveryCall.{edge, count, every, Answers, Leaves, Tells, Ranked, Rest}
 
 module _ (n : ℕ) (s : Lent) where
@@ -31,7 +31,7 @@ module _ (n : ℕ) (s : Lent) where
       (Tells r (¬ (count n s i u * count n s v j % 2 ^ 64 ≡ count n s i j)))
       × (Valid n s → r.number ≡ 0 → Tells r ((l : List ℕ) × IsPath n (λ a b. edge s a b - delta a u * delta b v) i j l))
   reaches_without_field i j u v =
-      let w = reaches-without-words n s i j u v in (
+      let w = reaches_without_words n s i j u v in (
         answers_of w.0 w.1 (λ z. elim (w.2 z) [ inl d ↦ inl d | inr e ↦ inr (λ h. h e.0, e.1) ]) w.3,
         reaches_without_valid_words n s i j u v,
       )
@@ -45,8 +45,8 @@ module _ (n : ℕ) (s : Lent) where
       × Leaves r before after (Rest (length p) before after × ((x : ℕ) → x < length p → get_or after x 0 ≡ get_or p x 0))
       × (Valid n s → (¬ (r.number ≡ 9)) × (r.number ≡ 0 → Ranked n s i j k p))
   unrank_field i j k before =
-      let w = unrank-words n s i j k before in
-      let t = unrank-leaves-words n s i j k before in (
+      let w = unrank_words n s i j k before in
+      let t = unrank_leaves_words n s i j k before in (
         answers_of w.0 w.1 w.2 w.3,
         (λ z. let q = t.0 z in ((q.0, q.1), q.2), t.1),
         unrank_valid_words n s i j k before,
@@ -61,7 +61,7 @@ module _ (n : ℕ) (s : Lent) where
       (r.value ≡ sum (length p - 1) (λ x. sum (at (suc x)) (λ b. edge s (at x) b * count n s b end)) % 2 ^ 64)
       × (Valid n s → r.number ≡ 0 → Ranked n s (at 0) end r.value p)
   rank_field p =
-      let w = rank-words n s p in (
+      let w = rank_words n s p in (
         answers_of w.0 w.1 w.2 w.3,
         rank_valid_words n s p,
       )

@@ -28,11 +28,11 @@ value : (r r' : Answer) → r ≡ r' → r.value ≡ r'.value
 value r r' e = ap (λ (x : Answer). x.value) e
 
 module _ (n : ℕ) (s : Lent) where
-  pub empty-field :
+  pub empty_field :
       let r = empty_answer n s in
       let t = empty_after n s in
       Answers (every n s []) r (r.value ≡ 0) × Leaves r s t (Valid n t × ((i : ℕ) → i < n → row t i ≡ 0))
-  empty-field = (
+  empty_field = (
     record { number = empty_words n s; place = refl; accepted = λ z. (empty_leaves_words n s z).0; refused = λ d. value _ _ (empty_refused n s d).0 },
     (λ z. let w = empty_leaves_words n s z in (w.1, w.2), λ d. (empty_refused n s d).1),
   )
