@@ -1,7 +1,6 @@
 -- `recount::is_valid` meets its contract: each way out is a law of ValidateLaws. Assumes nothing.
 use native.Mathlib.Omega.{arith}
 use borrow.Author.Rules.{rules}
-use borrow.Author.Tests.{not-true, not-false}
 use Rattle.sheet.proofs.StrayLaws.{rows_below}
 use Rattle.recount.proofs.ValidateLaws.{valid_stray, valid_cycle, valid_holds}
 use Rattle.recount.proofs.is_valid.Statement.{statement}
@@ -14,19 +13,19 @@ find-order-requires : tie.Need-find_order-requires
 find-order-requires c κs = search rows_below
 
 returns-2 : tie.Need-returns-then-not-find_order
-returns-2 c = search (valid_cycle, not-true)
+returns-2 c = search valid_cycle
 
 all-counts-hold-requires : tie.Need-all_counts_hold-requires
 all-counts-hold-requires c κs = search rows_below
 
 returns-3 : tie.Need-returns-then-n-lt-COLUMNS
-returns-3 c = search (valid_holds, not-false)
+returns-3 c = search valid_holds
 
 blocks-hold-requires : tie.Need-blocks_hold-requires
-blocks-hold-requires c κs = search (rows_below, c.find_order.ensures.ordered, not-false, arith)
+blocks-hold-requires c κs = search (rows_below, c.find_order.ensures.ordered, arith)
 
 returns-4 : tie.Need-returns
-returns-4 c = search (valid_holds, not-false)
+returns-4 c = search valid_holds
 
 pub is_valid_spec : {M : Type 1} → statement M
 is_valid_spec =

@@ -1,6 +1,5 @@
 -- `recount::recount_core` meets its contract: each way out is a law of RecountLaws. Assumes nothing.
 use borrow.Author.Rules.{rules}
-use borrow.Author.Tests.{not-true, not-false}
 use Rattle.sheet.proofs.StrayLaws.{rows_below}
 use Rattle.recount.proofs.RecountLaws.{recount_stray, recount_cycle, recount_accepted, recount_shape}
 use Rattle.recount.proofs.recount_core.Statement.{statement}
@@ -10,10 +9,10 @@ returns : tie.Need-returns-then-has_stray_row
 returns c = search recount_stray
 
 returns-2 : tie.Need-returns-then-not-find_order
-returns-2 c = search (recount_cycle, not-true)
+returns-2 c = search recount_cycle
 
 returns-3 : tie.Need-returns
-returns-3 c = search (recount_accepted, not-false)
+returns-3 c = search recount_accepted
 
 find-order-requires : tie.Need-find_order-requires
 find-order-requires c κs = search rows_below

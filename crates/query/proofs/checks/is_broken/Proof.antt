@@ -3,7 +3,6 @@ use mathlib.Core.Logic.{◌↔◌}
 use Prim.Native.Nat.{◌-◌, ◌≤◌}
 use native.Mathlib.Omega.{arith}
 use borrow.Author.Rules.{rules}
-use borrow.Author.Tests.{not-true}
 use lib.ListN.{length, drop}
 use Rattle.query_theory.specs.Rank.{Gap}
 use Rattle.query.proofs.PathLaws.{broken_none, broken_long, gap_found, gap_more, gap_none}
@@ -36,7 +35,7 @@ returns-2 : tie.Need-returns-then-n-path invariant-loop decreases-loop
 returns-2 c = search broken_long
 
 returns-3 : tie.Need-returns-then-not-has_edge invariant-loop decreases-loop
-returns-3 c = search (gap_found, not-true)
+returns-3 c = search gap_found
 
 returns-4 : tie.Need-returns invariant-loop decreases-loop
 returns-4 c =

@@ -1,7 +1,6 @@
 -- `query::checks::without_number` meets its contract: each way out is a law of CheckLaws. Assumes nothing.
 use native.Mathlib.Omega.{arith}
 use borrow.Author.Rules.{rules}
-use borrow.Author.Tests.{not-true, not-false}
 use Rattle.sheet_theory.proofs.ShapeLaws.{shape_of}
 use Rattle.query.proofs.CheckLaws.{without_shape, without_vertex, without_absent, without_there}
 use Rattle.query.proofs.checks.without_number.Statement.{statement}
@@ -14,10 +13,10 @@ returns-2 : tie.Need-returns-then-n-greater
 returns-2 c = search without_vertex
 
 returns-3 : tie.Need-returns-then-not-has_edge
-returns-3 c = search (without_absent, not-true)
+returns-3 c = search without_absent
 
 returns-4 : tie.Need-returns
-returns-4 c = search (without_there, not-false)
+returns-4 c = search without_there
 
 has-edge-requires : tie.Need-has_edge-requires
 has-edge-requires c κs =

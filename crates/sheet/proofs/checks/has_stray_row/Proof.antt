@@ -2,7 +2,6 @@
 use Prim.Native.Nat.{ℕ, ◌-◌, ◌^◌, ◌≤◌, ◌<◌}
 use native.Mathlib.Omega.{arith}
 use borrow.Author.Rules.{rules}
-use borrow.Author.Tests.{not-true, not-false}
 use Rattle.sheet_theory.specs.Layout.{row_at}
 use Rattle.sheet_theory.proofs.LayoutLaws.{rows_within}
 use Rattle.sheet.proofs.StrayLaws.{stray_found, stray_more, stray_none}
@@ -19,10 +18,10 @@ loop-holds : tie.Need-loop-i-init invariant-loop decreases-loop
 loop-holds c = (omega arith, λ k q. absurd (omega arith))
 
 returns : tie.Need-returns-then-not-within invariant-loop decreases-loop
-returns c = search (stray_found, not-true)
+returns c = search stray_found
 
 loop-again : tie.Need-loop-i-preserved invariant-loop decreases-loop
-loop-again c = (omega arith, search (stray_more, not-false))
+loop-again c = (omega arith, search stray_more)
 
 returns-2 : tie.Need-returns invariant-loop decreases-loop
 returns-2 c = stray_none _ c.before.before.before.args.sheet.now _ c.before.loop-i.invariant.1 (omega arith)
