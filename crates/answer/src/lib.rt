@@ -1,17 +1,80 @@
-// What every call answers, and the numbers by which calls refuse.
+// What every call answers, and why calls refuse.
 #![tactic(auto)]
 
 ghost use Rattle.std.specs.Prelude.{◌≡◌};
-ghost use Rattle.answer.specs.Answers.{answer};
+ghost use Rattle.answer.specs.Answers.{answer, number_of_refusal, answer_of};
+
+// Why a call refuses: the rows of document 01's table, by their numbers.
+#[derive(Clone, Copy, Debug, PartialEq, Eq)]
+pub enum Refusal {
+    // Every call: n is not 1 to 64.
+    Vertices = 1,
+    // Every call: the sheet isn't n + n × n words.
+    Length = 2,
+    // Vertices named: one is n or more.
+    Vertex = 3,
+    // Masks, and rows in a recount: a bit at n or above.
+    StrayBit = 4,
+    // Edges to insert: from a vertex to itself.
+    SelfLoop = 5,
+    // Edges to insert: already there.
+    Present = 6,
+    // Edge to delete or go without: not there.
+    Absent = 7,
+    // Insertion and recount: a cycle.
+    Cycle = 8,
+    // Plan read or written: the sheet is not valid. Path of a rank: no edge fits, n vertices without arriving, or k not 0 on
+    // arriving.
+    NotValid = 9,
+    // Buffer written: under n bytes for a path, under 8 bytes an edge for a plan.
+    Buffer = 10,
+    // Path of a rank: k is not below the count.
+    NoSuchPath = 11,
+    // Rank of a path: no vertices, more than n, or two neighbours without an edge.
+    NoPath = 12,
+    // Plan read: the length is not a multiple of 8, or over 32,768 bytes.
+    PlanLength = 13,
+    // Each record: not of the form.
+    Record = 14,
+}
+
+impl Refusal {
+    // Internal: the number of its row.
+    pub fn number(self) -> u64
+        ensures { result ≡ number_of_refusal self }
+    {
+        self as u64
+    }
+}
 
 // An answer: the number is 0 for accepted, else that of the refusal; the place is the refused record of a plan, from 1 up,
 // else 0; the value is what was asked for, and 0 when refused.
 #[repr(C)]
-#[derive(Drop)]
+#[derive(Clone, Copy, Debug, PartialEq, Eq)]
 pub struct Answer {
     pub number: u64,
     pub place: u64,
     pub value: u64,
+}
+
+// Internal: a call that names no record is accepted with a value, or refused.
+impl From<Result<u64, Refusal>> for Answer {
+    ghost from_gives = { λ outcome made. made ≡ answer_of outcome };
+
+    fn from(outcome: Result<u64, Refusal>) -> Answer {
+        match outcome {
+            Ok(value) => Answer {
+                number: 0,
+                place: 0,
+                value,
+            },
+            Err(refusal) => Answer {
+                number: refusal.number(),
+                place: 0,
+                value: 0,
+            },
+        }
+    }
 }
 
 impl Answer {
@@ -38,38 +101,34 @@ impl Answer {
     }
 }
 
-// The numbers of the refusals: the rows of document 01's table.
-#[derive(Drop)]
-pub struct Refusal {}
+pub struct Numbers {}
 
-impl Refusal {
-    // Every call: n is not 1 to 64.
+impl Numbers {
     pub const VERTICES: u64 = 1;
-    // Every call: the sheet isn't n + n × n words.
+
     pub const LENGTH: u64 = 2;
-    // Vertices named: one is n or more.
+
     pub const VERTEX: u64 = 3;
-    // Masks, and rows in a recount: a bit at n or above.
+
     pub const STRAY_BIT: u64 = 4;
-    // Edges to insert: from a vertex to itself.
+
     pub const SELF_LOOP: u64 = 5;
-    // Edges to insert: already there.
+
     pub const PRESENT: u64 = 6;
-    // Edge to delete or go without: not there.
+
     pub const ABSENT: u64 = 7;
-    // Insertion and recount: a cycle.
+
     pub const CYCLE: u64 = 8;
-    // Plan read or written: the sheet is not valid. Path of a rank: no edge fits, n vertices without arriving, or k not 0 on
-    // arriving.
+
     pub const NOT_VALID: u64 = 9;
-    // Buffer written: under n bytes for a path, under 8 bytes an edge for a plan.
+
     pub const BUFFER: u64 = 10;
-    // Path of a rank: k is not below the count.
+
     pub const NO_SUCH_PATH: u64 = 11;
-    // Rank of a path: no vertices, more than n, or two neighbours without an edge.
+
     pub const NO_PATH: u64 = 12;
-    // Plan read: the length is not a multiple of 8, or over 32,768 bytes.
+
     pub const PLAN_LENGTH: u64 = 13;
-    // Each record: not of the form.
+
     pub const RECORD: u64 = 14;
 }

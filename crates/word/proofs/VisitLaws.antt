@@ -9,7 +9,7 @@ use Rattle.word.specs.Wrap.{plus}
 use Rattle.word.proofs.BitLaws.{bit_zero, bit_clear_same, bit_clear_other, clear_below}
 use Rattle.word.proofs.MaskLaws.{bit_below}
 use Rattle.word.proofs.CountLaws.{lowest_lt}
-use Rattle.word.proofs.WrapLaws.{Wraps, plus_wraps}
+use Rattle.word.specs.Combine.{Wraps, plus_wraps}
 
 -- ---- where a visit stands
 

@@ -4,7 +4,7 @@ use native.Mathlib.Nat.{mod-mod, mod-add-mod, mul-mul-mul_comm, add-mul-mod_self
 use lib.Pow.{split}
 use Rattle.sums.specs.Modulo.{Congruent}
 use Rattle.sums.proofs.ModuloLaws.{congruent_add, congruent_product}
-use Rattle.word.specs.Wrap.{plus, minus}
+use Rattle.word.specs.Wrap.{minus}
 
 -- ---- the difference
 
@@ -25,22 +25,6 @@ minus_congruent r x y h e = omega arith
 -- so it is the only one that y added to wraps back to the word x
 pub minus_only : (r x y : ℕ) → r < 2 ^ 64 → (r + y) % 2 ^ 64 ≡ x → r ≡ minus x y
 minus_only r x y h e = minus_congruent r x y h (omega arith)
-
--- ---- terms added to a word, or taken off it, one after the other
-
--- op x y is the word x with y added, or taken off, modulo 2 ^ 64
-pub record Wraps (op : ℕ → ℕ → ℕ) : Type 0 where
-  pub none : (x : ℕ) → x < 2 ^ 64 → x ≡ op x 0
-  pub twice : (x y z : ℕ) → op (op x y) z ≡ op x (y + z)
-
-pub plus_wraps : Wraps plus
-plus_wraps = record { none = λ x h. omega arith; twice = λ x y z. omega arith }
-
-pub minus_wraps : Wraps minus
-minus_wraps = record {
-  none = λ x h. minus_congruent x x 0 h (omega arith);
-  twice = λ x y z. minus_congruent _ x (y + z) (minus_lt (minus x y) z) (omega (arith, minus_add (minus x y) z, minus_add x y));
-}
 
 -- ---- the product
 

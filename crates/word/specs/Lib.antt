@@ -1,3 +1,5 @@
--- Bits of words, and arithmetic modulo 2 ^ 64. Definitions only. Assumes nothing.
+-- Bits of words, and arithmetic modulo 2 ^ 64. Assumes nothing.
 pub mod Bit
+pub mod Bits
+pub mod Combine
 pub mod Wrap
