@@ -17,13 +17,13 @@ pub(crate) fn masks_number(n: usize, v: usize, predecessors: u64, successors: u6
     ensures { First (argued n (at v predecessors successors) []) result }
 {
     if n <= v {
-        return Refusal::VERTEX;
+        return Numbers::VERTEX;
     }
     if !word::within(predecessors, n) {
-        return Refusal::STRAY_BIT;
+        return Numbers::STRAY_BIT;
     }
     if !word::within(successors, n) {
-        return Refusal::STRAY_BIT;
+        return Numbers::STRAY_BIT;
     }
     0
 }
@@ -132,21 +132,21 @@ pub fn edit_number(
 {
     if !inserts {
         if some_edge(false, n, sheet, v, predecessors, successors) {
-            return Refusal::ABSENT;
+            return Numbers::ABSENT;
         }
         return 0;
     }
     if word::test_bit(predecessors, v) {
-        return Refusal::SELF_LOOP;
+        return Numbers::SELF_LOOP;
     }
     if word::test_bit(successors, v) {
-        return Refusal::SELF_LOOP;
+        return Numbers::SELF_LOOP;
     }
     if some_edge(true, n, sheet, v, predecessors, successors) {
-        return Refusal::PRESENT;
+        return Numbers::PRESENT;
     }
     if closes_cycle(n, sheet, v, predecessors, successors) {
-        return Refusal::CYCLE;
+        return Numbers::CYCLE;
     }
     0
 }

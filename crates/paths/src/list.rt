@@ -14,7 +14,7 @@ fn path(
 ) -> io::Result<bool> {
     let mut bytes = [0u8; Sheet::VERTICES];
     let found = query::unrank(n, sheet, from, to, k, &mut bytes);
-    if found.number == Refusal::NO_SUCH_PATH {
+    if found.number == Numbers::NO_SUCH_PATH {
         return Ok(false);
     }
     if found.number != 0 {

@@ -19,7 +19,7 @@ const INPUT: usize = 65536;
 fn insert_edges(n: usize, sheet: &mut [u64], m: usize, text: &[u8]) -> u64 {
     for k in 0..m {
         let Record::Edge(from, to) = record::first(script::skip(text, script::LINE_FEED, k)) else {
-            return Refusal::RECORD;
+            return Numbers::RECORD;
         };
         let answer = edit::insert_edge(n, sheet, from, to);
         if answer.number != 0 {
@@ -57,7 +57,7 @@ fn list_in(
 // Graph k, listed over a sheet of its size: 0, or the number of the refusal.
 fn list_graph(rt: &impl Print, k: u64, n: usize, m: usize, text: &[u8]) -> io::Result<u64> {
     if Sheet::VERTICES < n {
-        return Ok(Refusal::VERTICES);
+        return Ok(Numbers::VERTICES);
     }
     let mut words = [0u64; Sheet::WORDS];
     list_in(
@@ -80,7 +80,7 @@ fn first_graph(rt: &impl Print, text: &[u8], k: u64) -> io::Result<usize> {
             lines = m.wrapping_add(1);
             list_graph(rt, k, n, m, script::skip(text, script::LINE_FEED, 1))?
         }
-        _ => Refusal::RECORD,
+        _ => Numbers::RECORD,
     };
     if number == 0 {
         return Ok(lines);

@@ -19,7 +19,7 @@ fn apply_record(n: usize, sheet: &mut [u64], record: Record) -> u64
     match record {
         Record::Insert(from, to) => edit::insert_edge(n, sheet, from, to).number,
         Record::Delete(from, to) => edit::delete_edge(n, sheet, from, to).number,
-        Record::Malformed => Refusal::RECORD,
+        Record::Malformed => Numbers::RECORD,
     }
 }
 

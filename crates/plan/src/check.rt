@@ -13,10 +13,10 @@ fn length_number(plan: &[u8]) -> u64
 {
     let bytes = plan.len();
     if bytes % Record::BYTES != 0 {
-        return Refusal::PLAN_LENGTH;
+        return Numbers::PLAN_LENGTH;
     }
     if crate::MOST_BYTES < bytes {
-        return Refusal::PLAN_LENGTH;
+        return Numbers::PLAN_LENGTH;
     }
     0
 }

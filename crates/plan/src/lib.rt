@@ -39,7 +39,7 @@ pub fn write_plan(n: usize, sheet: &[u64], plan: &mut [u8]) -> Answer
     }
     let bytes = Record::BYTES as u64 * sheet::words::count_set_bits(n, sheet);
     if (plan.len() as u64) < bytes {
-        return Answer::refused(Refusal::BUFFER);
+        return Answer::refused(Numbers::BUFFER);
     }
     write::write_rows(n, sheet, plan);
     Answer::accepted(bytes)

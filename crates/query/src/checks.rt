@@ -44,10 +44,10 @@ pub(crate) fn without_number(
         return number;
     }
     if n <= greater(greater(from, to), greater(edge_from, edge_to)) {
-        return Refusal::VERTEX;
+        return Numbers::VERTEX;
     }
     if !has_edge(n, sheet, edge_from, edge_to) {
-        return Refusal::ABSENT;
+        return Numbers::ABSENT;
     }
     0
 }
@@ -68,10 +68,10 @@ pub(crate) fn walk_number(
         return number;
     }
     if bytes < n {
-        return Refusal::BUFFER;
+        return Numbers::BUFFER;
     }
     if layout::count_at(n, sheet, from, to) <= k {
-        return Refusal::NO_SUCH_PATH;
+        return Numbers::NO_SUCH_PATH;
     }
     0
 }
@@ -120,10 +120,10 @@ pub(crate) fn rank_number(n: usize, sheet: &[u64], path: &[u8]) -> u64
         return number;
     }
     if has_no_vertex(n, path) {
-        return Refusal::VERTEX;
+        return Numbers::VERTEX;
     }
     if is_broken(n, sheet, path) {
-        return Refusal::NO_PATH;
+        return Numbers::NO_PATH;
     }
     0
 }

@@ -62,7 +62,7 @@ pub fn unrank(n: usize, sheet: &[u64], from: usize, to: usize, k: u64, path: &mu
     let mut aside = [0u8; Sheet::VERTICES];
     let count = walk::walk_aside(n, sheet, from, to, k, &mut aside);
     if count == 0 {
-        return Answer::refused(Refusal::NOT_VALID);
+        return Answer::refused(Numbers::NOT_VALID);
     }
     text::put(path, 0, &aside[..count]);
     Answer::accepted(count as u64)

@@ -32,11 +32,11 @@ pub fn recount_core(n: usize, sheet: &mut [u64]) -> Answer
     ensures { RecountBy (row_conditions n (lent sheet.old)) n (lent sheet.old) result (lent sheet.new) }
 {
     if sheet::checks::has_stray_row(n, sheet) {
-        return Answer::refused(Refusal::STRAY_BIT);
+        return Answer::refused(Numbers::STRAY_BIT);
     }
     let mut order = [0usize; Sheet::VERTICES];
     if !order::find_order(n, sheet, &mut order) {
-        return Answer::refused(Refusal::CYCLE);
+        return Answer::refused(Numbers::CYCLE);
     }
     fill_counts(n, sheet, &order);
     Answer::accepted(sheet::words::count_set_bits(n, sheet))
@@ -95,7 +95,7 @@ fn valid_number(n: usize, sheet: &[u64]) -> u64
     if is_valid(n, sheet) {
         return 0;
     }
-    Refusal::NOT_VALID
+    Numbers::NOT_VALID
 }
 
 // Internal: what a call that reads a sheet, which has to be valid, looks for first: 1, 2, 9.

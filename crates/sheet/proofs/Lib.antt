@@ -1,4 +1,5 @@
 pub mod FillLaws
+pub mod SliceLaws
 pub mod EmptyLaws
 pub mod StrayLaws
 pub mod WordsLaws

@@ -11,12 +11,12 @@ use lib.ListN.{length, get_or, set, replicate, length-replicate, get_or-replicat
 use Rattle.sums.specs.Sum.{sum}
 use Rattle.word.specs.Bit.{bit, Lowest, LowestCleared}
 use Rattle.word.specs.Wrap.{plus}
-use Rattle.word.proofs.WrapLaws.{Wraps}
+use Rattle.word.specs.Combine.{Wraps}
 use Rattle.word.proofs.VisitLaws.{Visiting, Passes, visiting_start, visiting_more, visiting_done, terms_start, terms_pass, terms_more}
 use Rattle.sheet_theory.specs.Layout.{counts_from, count_at}
 use Rattle.sheet_theory.proofs.LayoutLaws.{place_apart}
 use Rattle.sheet.specs.Fill.{over}
-use Rattle.sheet.specs.Internal.{CountsFrom, Place, words_by, SumsBy, CountsSummed, with_counts}
+use Rattle.sheet.specs.Internal.{CountsFrom, Place, words_by, combined, SumsBy, CountsSummed, with_counts}
 use Rattle.sheet.proofs.FillLaws.{length_puts, puts_in, puts_change, puts_cong, over_in, over_out}
 
 pub place_count : (n : ℕ) (s : List ℕ) (i j p : ℕ) → Place n i j p → get_or s p 0 ≡ count_at n s i j
@@ -42,6 +42,18 @@ module _ (op : ℕ → ℕ → ℕ) (n : ℕ) (s : List ℕ) (base : ℕ) (t u :
 
   pub words_at : (j : ℕ) → j < n → j < length t → get_or u j 0 ≡ op (get_or t j 0) (get_or s (base + j) 0)
   words_at j h q = ap (λ (l : List ℕ). get_or l j 0) eu ∙ puts_in t (λ k. k) _ n j h q (λ i x y e. omega arith)
+
+-- ---- words combined with others
+
+pub combined_more : (op : ℕ → ℕ → ℕ) (l t w : List ℕ) (j r : ℕ) → w ≡ combined op j l t → r ≡ op (get_or w j 0) (get_or l j 0) → set w j r ≡ combined op (j + 1) l t
+combined_more op l t w j r ew er = puts_change t (λ k. k) (λ k x. op x (get_or l k 0)) w j j r ew refl (λ k q e. omega arith) er
+
+module _ (op : ℕ → ℕ → ℕ) (n : ℕ) (l t u : List ℕ) (eu : u ≡ combined op n l t) where
+  pub combined_long : length u ≡ length t
+  combined_long = ap length eu ∙ length_puts t (λ j. j) _ n
+
+  pub combined_at : (j : ℕ) → j < n → j < length t → get_or u j 0 ≡ op (get_or t j 0) (get_or l j 0)
+  combined_at j h q = ap (λ (l : List ℕ). get_or l j 0) eu ∙ puts_in t (λ k. k) _ n j h q (λ i x y e. omega arith)
 
 -- ---- counts from one vertex written
 
@@ -102,6 +114,19 @@ module _ {op : ℕ → ℕ → ℕ} (wraps : Wraps op) (n : ℕ) (s : List ℕ) 
         each = λ j hj small.
             terms_more wraps mask (λ b. count_at n s b (c + j)) (get_or a j 0) b (get_or t j 0) (get_or u j 0) o (p.each j hj small)
             (words_at op w s (base + c) t u row j hj (omega (arith, p.long)) ∙ ap (op (get_or t j 0)) (block_count n s b base c at j));
+      })
+
+  -- the counts from b, of which l has those to the w columns, are combined
+  pub summing_next : (t u l : List ℕ) (rest b r m : ℕ) → w ≤ length a → Summing op n s c w mask a rest t → Lowest rest b
+      → ((j : ℕ) → j < w → get_or l j 0 ≡ count_at n s b (c + j)) → m ≡ w → u ≡ combined op m l t → LowestCleared rest r → Summing op n s c w mask a r u
+  summing_next t u l rest b r m h was low counts em eu er =
+      let row = eu ∙ ap (λ (k : ℕ). combined op k l t) em in
+      visiting_more n mask _ (passes t) rest was b low _ r er
+      (λ q o p. record {
+        long = combined_long op w l t u row ∙ p.long;
+        each = λ j hj small.
+            terms_more wraps mask (λ b. count_at n s b (c + j)) (get_or a j 0) b (get_or t j 0) (get_or u j 0) o (p.each j hj small)
+            (combined_at op w l t u row j hj (omega (arith, p.long)) ∙ ap (op (get_or t j 0)) (counts j hj));
       })
 
   pub summing_done : (t : List ℕ) (rest : ℕ) → Summing op n s c w mask a rest t → rest ≡ 0 → SumsBy op n s c w mask a t n

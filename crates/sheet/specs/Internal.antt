@@ -20,6 +20,11 @@ pub record Place (n i j r : ℕ) : Type 0 where
   pub within : r < size n
   pub small : r < counts_end most_vertices
 
+-- l has the counts from i
+pub record CountsOf (n : ℕ) (s : List ℕ) (i : ℕ) (l : List ℕ) : Type 0 where
+  pub long : length l ≡ n
+  pub counts : (j : ℕ) → j < n → get_or l j 0 ≡ count_at n s i j
+
 -- where the count from i to itself stands
 abbrev pub diagonal_at : ℕ → ℕ → ℕ
 diagonal_at n i = count_place n i i
@@ -29,6 +34,10 @@ diagonal_at n i = count_place n i i
 -- t with, at each place j below n, what op makes of word j of t and word j of s from base on: `plus` or `minus`
 abbrev pub words_by : (ℕ → ℕ → ℕ) → ℕ → List ℕ → ℕ → List ℕ → List ℕ
 words_by op n s base t = puts t (λ j. j) (λ j. op (get_or t j 0) (get_or s (base + j) 0)) n
+
+-- t with, at each of the first k places, what op makes of the word of t and that of l: `plus` or `minus`
+abbrev pub combined : (ℕ → ℕ → ℕ) → ℕ → List ℕ → List ℕ → List ℕ
+combined op k l t = puts t (λ j. j) (λ j. op (get_or t j 0) (get_or l j 0)) k
 
 -- u has as many words as t, and each below w is that of t with the counts to its column, of the w from c on, from the vertices of the
 -- mask below k, added or taken off: op is `plus` or `minus`

@@ -8,7 +8,7 @@ ghost use Rattle.sheet_theory.specs.Conditions.{StrayRow, vertex_conditions, siz
 
 use crate::layout;
 use crate::layout::Sheet;
-use answer::Refusal;
+use answer::Numbers;
 
 // Internal: what a call that reads looks for first: 1 if n is not 1 to 64, else 2 if the sheet has another number of words than a sheet
 // of n vertices.
@@ -16,13 +16,13 @@ pub fn shape_number(n: usize, sheet: &[u64]) -> u64
     ensures { First (sized n (lent sheet.now) []) result }
 {
     if n < 1 {
-        return Refusal::VERTICES;
+        return Numbers::VERTICES;
     }
     if Sheet::VERTICES < n {
-        return Refusal::VERTICES;
+        return Numbers::VERTICES;
     }
     if sheet.len() != layout::word_count(n) {
-        return Refusal::LENGTH;
+        return Numbers::LENGTH;
     }
     0
 }
@@ -39,10 +39,10 @@ pub fn vertex_number(n: usize, i: usize, j: usize) -> u64
     ensures { First (vertex_conditions n i j []) result }
 {
     if n <= i {
-        return Refusal::VERTEX;
+        return Numbers::VERTEX;
     }
     if n <= j {
-        return Refusal::VERTEX;
+        return Numbers::VERTEX;
     }
     0
 }

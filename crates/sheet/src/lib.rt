@@ -9,10 +9,12 @@ ghost use Rattle.sheet_theory.specs.Calls.{empty_answer, empty_after, path_count
 pub mod checks;
 mod fill;
 pub mod layout;
+pub mod view;
 pub mod words;
 
-pub use answer::{Answer, Refusal};
+pub use answer::{Answer, Numbers, Refusal};
 pub use layout::Sheet;
+pub use view::View;
 
 // The empty sheet of n vertices, whatever the words were. Refused by 1, 2. The value is 0.
 pub fn empty(n: usize, sheet: &mut [u64]) -> Answer

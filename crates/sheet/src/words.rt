@@ -3,10 +3,11 @@ ghost use Rattle.std.specs.Prelude.{◌≡◌, ℕ, ◌+◌, ◌≤◌, ◌<◌,
 ghost use Rattle.word.specs.Wrap.{plus};
 ghost use Rattle.sheet_theory.specs.Layout.{Shape, set_bits};
 ghost use Rattle.sheet.specs.Fill.{over};
-ghost use Rattle.sheet.specs.Internal.{words_by, SumsBy, CountsSummed};
+ghost use Rattle.sheet.specs.Internal.{words_by, combined, SumsBy, CountsSummed};
 
 use crate::layout;
 use crate::layout::Sheet;
+use word::Combine;
 
 // Internal: the first `count` words of `from`, written to `to` from base on.
 pub fn copy_words(count: usize, from: &[u64], to: &mut [u64], base: usize)
@@ -17,6 +18,16 @@ pub fn copy_words(count: usize, from: &[u64], to: &mut [u64], base: usize)
     while j < count {
         to[base + j] = from[j];
         j += 1;
+    }
+}
+
+// Internal: each of some words combined with the word of t at its place: added to it, or taken off it, modulo 2^64.
+pub fn combine_words<C: Combine>(words: &[u64], t: &mut [u64])
+    requires { length words.now ≤ length t.old }
+    ensures { t.new ≡ combined C.op (length words.now) words.now t.old }
+{
+    for (j, x) in words.iter().enumerate() {
+        t[j] = C::combine(t[j], *x);
     }
 }
 

@@ -3,7 +3,7 @@
 use native.Mathlib.Omega.{arith}
 use borrow.Author.Tests.{eqb-true, eqb-false}
 use Rattle.word.specs.Wrap.{plus}
-use Rattle.word.proofs.WrapLaws.{plus_wraps}
+use Rattle.word.specs.Combine.{plus_wraps}
 use Rattle.word.proofs.CountLaws.{lowest_lt, lowest_cleared_lt}
 use Rattle.sheet.proofs.WordsLaws.{Summing, summing_start, summing_more, summing_done}
 use Rattle.sheet.proofs.words.add_counts.Statement.{statement}

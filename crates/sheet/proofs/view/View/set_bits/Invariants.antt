@@ -1,0 +1,7 @@
+-- `sheet::View::set_bits` meets its contract: after i turns the total is the number of set bits of the first i rows. Assumes nothing.
+use Rattle.std.proofs.Common.{◌≡◌}
+use Rattle.sheet_theory.specs.Layout.{set_bits}
+use Rattle.sheet.proofs.view.View.set_bits.Given as goal
+
+abbrev pub invariant-loop-i : goal.invariant-loop-i
+invariant-loop-i l = l.total ≡ set_bits l.i l.self.words.now
