@@ -1,3 +1,4 @@
 pub mod TableLaws
 pub mod AnswerLaws
+pub mod OutcomeLaws
 pub mod ByNumber

@@ -1,14 +1,15 @@
 // The checks that calls share. Each gives the number of the first condition that holds, in the order of document 01's table, or 0.
 ghost use Rattle.std.specs.Prelude.{◌≡◌, []};
 ghost use Rattle.answer.specs.Table.{First, Reflects};
-ghost use Rattle.answer.specs.Answers.{decided};
+ghost use Rattle.answer.specs.Answers.{decided, number_of};
 ghost use Rattle.sheet_theory.specs.Layout.{Shape};
 ghost use Rattle.sheet_theory.specs.Lent.{lent};
 ghost use Rattle.sheet_theory.specs.Conditions.{StrayRow, vertex_conditions, sized, altering};
 
 use crate::layout;
 use crate::layout::Sheet;
-use answer::Numbers;
+use crate::view::View;
+use answer::{Numbers, Refusal};
 
 // Internal: what a call that reads looks for first: 1 if n is not 1 to 64, else 2 if the sheet has another number of words than a sheet
 // of n vertices.
@@ -25,6 +26,14 @@ pub fn shape_number(n: usize, sheet: &[u64]) -> u64
         return Numbers::LENGTH;
     }
     0
+}
+
+// Internal: why a call that alters a sheet refuses before it looks at anything else: 1 or 2.
+pub fn altering(n: usize, sheet: &[u64]) -> Result<(), Refusal>
+    ensures { First (altering n (lent sheet.now) []) (number_of result) }
+{
+    View::of(n, sheet)?;
+    Ok(())
 }
 
 // Internal: what a call that alters a sheet looks for first.

@@ -3,6 +3,7 @@
 #![tactic(auto)]
 
 ghost use Rattle.std.specs.Prelude.{◌≡◌};
+ghost use Rattle.answer.specs.Answers.{answer_of};
 ghost use Rattle.sheet_theory.specs.Lent.{lent};
 ghost use Rattle.sheet_theory.specs.Calls.{empty_answer, empty_after, path_count_answer};
 
@@ -21,21 +22,31 @@ pub fn empty(n: usize, sheet: &mut [u64]) -> Answer
     ensures answer { result ≡ empty_answer n (lent sheet.old) }
     ensures words { lent sheet.new ≡ empty_after n (lent sheet.old) }
 {
-    let number = checks::altering_number(n, sheet);
-    if number != 0 {
-        return Answer::refused(number);
-    }
+    make_empty(n, sheet).into()
+}
+
+// The work of `empty`.
+fn make_empty(n: usize, sheet: &mut [u64]) -> Result<u64, Refusal>
+    ensures answer { answer_of result ≡ empty_answer n (lent sheet.old) }
+    ensures words { lent sheet.new ≡ empty_after n (lent sheet.old) }
+{
+    checks::altering(n, sheet)?;
     fill::fill_empty(n, sheet);
-    Answer::accepted(0)
+    Ok(0)
 }
 
 // The count from one vertex to another as it stands in the sheet; on a valid sheet, the number of paths. Refused by 1, 2, 3.
 pub fn path_count(n: usize, sheet: &[u64], from: usize, to: usize) -> Answer
     ensures answer { result ≡ path_count_answer n (lent sheet.now) from to }
 {
-    let number = checks::vertices_number(n, sheet, from, to);
-    if number != 0 {
-        return Answer::refused(number);
-    }
-    Answer::accepted(layout::count_at(n, sheet, from, to))
+    stored_count(n, sheet, from, to).into()
+}
+
+// The work of `path_count`.
+fn stored_count(n: usize, sheet: &[u64], from: usize, to: usize) -> Result<u64, Refusal>
+    ensures { answer_of result ≡ path_count_answer n (lent sheet.now) from to }
+{
+    let sheet = View::of(n, sheet)?;
+    sheet.check_vertices(from, to)?;
+    Ok(sheet.count(from, to))
 }

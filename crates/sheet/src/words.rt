@@ -14,11 +14,7 @@ pub fn copy_words(count: usize, from: &[u64], to: &mut [u64], base: usize)
     requires { (count ≤ length from.now) × (base + count ≤ length to.old) }
     ensures { to.new ≡ over to.old base (λ (j : ℕ). get_or from.now j 0) count }
 {
-    let mut j = 0;
-    while j < count {
-        to[base + j] = from[j];
-        j += 1;
-    }
+    to[base..base + count].copy_from_slice(&from[..count]);
 }
 
 // Internal: each of some words combined with the word of t at its place: added to it, or taken off it, modulo 2^64.
