@@ -1,10 +1,10 @@
 // The public calls, by the lines of the script.
-use crate::command::Command;
+use crate::command::{Command, NUMBERS};
 use crate::fault::Fault;
 use crate::lent::Lent;
 use crate::show;
+use arrayvec::ArrayVec;
 use sheet::{Answer, Sheet};
-use std::alloc::Global;
 
 // The answer of a call that may write words.
 fn edit(call: &Command<'_>, lent: &mut Lent) -> Option<Answer> {
@@ -20,28 +20,22 @@ fn edit(call: &Command<'_>, lent: &mut Lent) -> Option<Answer> {
             edit::delete_edges_at(n, words, i, to as u64, from as u64)
         }
         (b"recount", []) => recount::recount(n, words),
-        (b"read_plan", &[count]) => plan::read_plan(n, words, lent.bytes.get(..count)?),
+        (b"read_plan", &[count]) => plan::read_plan(n, words, lent.bytes.as_slice().get(..count)?),
         _ => return None,
     })
 }
 
 // The rank of a path.
-fn rank(alloc: Global, n: usize, words: &[u64], path: &[usize]) -> Result<Answer, Fault> {
-    let path: Vec<u8> = path
-        .iter()
-        .map(|vertex| u8::try_from(*vertex).map_err(Fault::from))
-        .try_collect(alloc)?;
+fn rank(n: usize, words: &[u64], vertices: &[usize]) -> Result<Answer, Fault> {
+    let mut path = ArrayVec::<u8, NUMBERS>::new();
+    for vertex in vertices {
+        path.try_push(u8::try_from(*vertex)?)?;
+    }
     Ok(query::rank(n, words, path.as_slice()))
 }
 
 // The answer of a call that writes no word, of the sheet of these words.
-fn ask(
-    alloc: Global,
-    call: &Command<'_>,
-    n: usize,
-    words: &[u64],
-    bytes: &mut [u8],
-) -> Result<Answer, Fault> {
+fn ask(call: &Command<'_>, n: usize, words: &[u64], bytes: &mut [u8]) -> Result<Answer, Fault> {
     Ok(match call.parts() {
         (b"path_count", &[from, to]) => sheet::path_count(n, words, from, to),
         (b"validate", []) => recount::validate(n, words),
@@ -49,7 +43,7 @@ fn ask(
             query::reaches_without(n, words, from, to, i, j)
         }
         (b"unrank", &[from, to, k]) => query::unrank(n, words, from, to, k as u64, bytes),
-        (b"rank", path) => rank(alloc, n, words, path)?,
+        (b"rank", vertices) => rank(n, words, vertices)?,
         (b"write_plan", &[count]) => {
             let plan = bytes.get_mut(..count).ok_or(Fault::NotACommand)?;
             plan::write_plan(n, words, plan)
@@ -59,9 +53,8 @@ fn ask(
 }
 
 // The answer of a call that writes no word, of the lent words.
-fn ask_lent(alloc: Global, call: &Command<'_>, lent: &mut Lent) -> Result<Answer, Fault> {
+fn ask_lent(call: &Command<'_>, lent: &mut Lent) -> Result<Answer, Fault> {
     ask(
-        alloc,
         call,
         lent.vertices,
         lent.words.as_slice(),
@@ -70,8 +63,8 @@ fn ask_lent(alloc: Global, call: &Command<'_>, lent: &mut Lent) -> Result<Answer
 }
 
 // A call with its lines: its line of the script with the answer, and, if it may write words, whether they are as before.
-pub fn shown<R: Print + AllocGlobal>(
-    rt: &R,
+pub fn shown(
+    rt: &impl Print,
     line: &[u8],
     call: &Command<'_>,
     lent: &mut Lent,
@@ -81,26 +74,26 @@ pub fn shown<R: Print + AllocGlobal>(
         show::answer(rt, line, answer)?;
         println!(rt; "unchanged {}", u8::from(lent.words == before))?;
     } else {
-        let answer = ask_lent(rt.alloc(), call, lent)?;
+        let answer = ask_lent(call, lent)?;
         show::answer(rt, line, answer)?;
     }
     Ok(())
 }
 
 // A call without its lines.
-pub fn quiet(alloc: Global, line: &[u8], lent: &mut Lent) -> Result<(), Fault> {
-    let call = Command::parse(alloc, line)?;
+pub fn quiet(line: &[u8], lent: &mut Lent) -> Result<(), Fault> {
+    let call = Command::parse(line)?;
     if edit(&call, lent).is_none() {
-        ask_lent(alloc, &call, lent)?;
+        ask_lent(&call, lent)?;
     }
     Ok(())
 }
 
 // A call that writes no word, of the sheet that the library makes, with its line.
-pub fn made<R: Print + AllocGlobal>(rt: &R, line: &[u8], bytes: &mut [u8]) -> Result<(), Fault> {
-    let call = Command::parse(rt.alloc(), line)?;
+pub fn made(rt: &impl Print, line: &[u8], bytes: &mut [u8]) -> Result<(), Fault> {
+    let call = Command::parse(line)?;
     let sheet = Sheet::new();
-    let answer = ask(rt.alloc(), &call, Sheet::VERTICES, &sheet.words, bytes)?;
+    let answer = ask(&call, Sheet::VERTICES, &sheet.words, bytes)?;
     show::answer(rt, line, answer)?;
     Ok(())
 }

@@ -1,6 +1,9 @@
 // The words of a line, and the commands that are a name with numbers.
 use crate::fault::Fault;
-use std::alloc::Global;
+use arrayvec::ArrayVec;
+
+// The most numbers of a line: with each stands a space, and the whole input is shorter than its buffer.
+pub const NUMBERS: usize = script::INPUT / 2;
 
 // Whether a byte stands between two words.
 fn is_space(byte: &u8) -> bool {
@@ -21,17 +24,16 @@ pub fn text(line: &[u8]) -> &[u8] {
 #[derive(Drop)]
 pub struct Command<'a> {
     name: &'a [u8],
-    numbers: Vec<usize>,
+    numbers: ArrayVec<usize, NUMBERS>,
 }
 
 impl<'a> Command<'a> {
     // The command of a line whose words after the first are all decimals.
-    pub fn parse(alloc: Global, line: &'a [u8]) -> Result<Command<'a>, Fault> {
-        let numbers = line
-            .split(is_space)
-            .skip(1)
-            .map(|word| script::decimal(word).ok_or(Fault::NotACommand))
-            .try_collect(alloc)?;
+    pub fn parse(line: &'a [u8]) -> Result<Command<'a>, Fault> {
+        let mut numbers = ArrayVec::new();
+        for word in line.split(is_space).skip(1) {
+            numbers.try_push(script::decimal(word).ok_or(Fault::NotACommand)?)?;
+        }
         Ok(Command {
             name: name(line),
             numbers,

@@ -1,4 +1,5 @@
 // Why a line of the script is not obeyed.
+use arrayvec::CapacityError;
 use std::alloc::AllocError;
 use std::io;
 use std::num::TryFromIntError;
@@ -7,8 +8,14 @@ use std::num::TryFromIntError;
 pub enum Fault {
     // The line is no command, or a number in it is too great.
     NotACommand,
-    // A line can't be printed, or there is no memory.
+    // A line can't be printed, or a copy can't be made.
     Io(io::Error),
+}
+
+impl<T: Drop> From<CapacityError<T>> for Fault {
+    fn from(_error: CapacityError<T>) -> Fault {
+        Fault::NotACommand
+    }
 }
 
 impl From<TryFromIntError> for Fault {

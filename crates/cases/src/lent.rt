@@ -1,6 +1,7 @@
 // What the calls are lent.
 use crate::fault::Fault;
-use std::alloc::{AllocError, Global};
+use arrayvec::ArrayVec;
+use std::iter;
 
 // The words of a sheet of 65 vertices, were there one: no case lends more.
 const WORDS: usize = 4290;
@@ -14,34 +15,42 @@ pub struct Lent {
     // The number of vertices.
     pub vertices: usize,
     // The words of a sheet.
-    pub words: Vec<u64>,
+    pub words: ArrayVec<u64, WORDS>,
     // The bytes of a path or of a plan.
-    pub bytes: Vec<u8>,
+    pub bytes: ArrayVec<u8, BYTES>,
     // The value that the words were lent with.
     value: u64,
-    // The words kept, and after them the value that they were lent with, to the end of the longest sheet.
-    kept: Vec<u64>,
+    // The words kept, and after them the value that they were lent with, up to the most words that can be lent.
+    kept: [u64; WORDS],
+}
+
+// So many items of one value, if there are no more than the most.
+fn filled<T: Copy + Default + Drop, const MOST: usize>(
+    count: usize,
+    value: T,
+) -> Result<ArrayVec<T, MOST>, Fault> {
+    let mut items = ArrayVec::new();
+    for _ in 0..count {
+        items.try_push(value)?;
+    }
+    Ok(items)
 }
 
 impl Lent {
     // Nothing lent, and words of value 0 kept.
-    pub fn new(alloc: Global) -> Result<Lent, AllocError> {
-        Ok(Lent {
+    pub fn new() -> Lent {
+        Lent {
             vertices: 0,
-            words: Vec::new(alloc),
-            bytes: Vec::new(alloc),
+            words: ArrayVec::new(),
+            bytes: ArrayVec::new(),
             value: 0,
-            kept: vec![in alloc; 0; WORDS]?,
-        })
+            kept: [0; WORDS],
+        }
     }
 
     // Lends so many words of this value.
     pub fn lend_words(&mut self, count: usize, value: u64) -> Result<(), Fault> {
-        if WORDS < count {
-            return Err(Fault::NotACommand);
-        }
-        self.words.clear();
-        self.words.resize(count, value)?;
+        self.words = filled(count, value)?;
         self.value = value;
         Ok(())
     }
@@ -50,6 +59,7 @@ impl Lent {
     pub fn put(&mut self, place: usize, values: &[usize]) -> Result<(), Fault> {
         let (_, words) = self
             .words
+            .as_mut_slice()
             .split_at_mut_checked(place)
             .ok_or(Fault::NotACommand)?;
         if words.len() < values.len() {
@@ -63,32 +73,27 @@ impl Lent {
 
     // Lends so many bytes of this value.
     pub fn lend_bytes(&mut self, count: usize, value: u8) -> Result<(), Fault> {
-        if BYTES < count {
-            return Err(Fault::NotACommand);
-        }
-        self.bytes.clear();
-        self.bytes.resize(count, value)?;
+        self.bytes = filled(count, value)?;
         Ok(())
     }
 
     // Lends the bytes of a text, with a line feed in place of each `/`.
     pub fn lend_plan(&mut self, text: &[u8]) -> Result<(), Fault> {
-        if BYTES < text.len() {
-            return Err(Fault::NotACommand);
-        }
         self.bytes.clear();
-        self.bytes.extend(
-            text.iter()
-                .map(|byte| if *byte == b'/' { b'\n' } else { *byte }),
-        )?;
+        for byte in text {
+            self.bytes
+                .try_push(if *byte == b'/' { b'\n' } else { *byte })?;
+        }
         Ok(())
     }
 
     // Keeps the lent words.
-    pub fn keep(&mut self) -> Result<(), AllocError> {
-        self.kept.clear();
-        self.kept.extend_from_slice(self.words.as_slice())?;
-        self.kept.resize(WORDS, self.value)
+    pub fn keep(&mut self) {
+        let after = iter::repeat(self.value);
+        let words = self.words.as_slice().iter().copied().chain(after);
+        for (kept, word) in self.kept.iter_mut().zip(words) {
+            *kept = word;
+        }
     }
 
     // Whether the lent words are those kept.

@@ -38,14 +38,14 @@ use sheet::Sheet;
 use std::io;
 
 // A command that is a name with numbers.
-fn obey_command<R: Print + AllocGlobal>(rt: &R, line: &[u8], lent: &mut Lent) -> Result<(), Fault> {
-    let command = Command::parse(rt.alloc(), line)?;
+fn obey_command(rt: &impl Print, line: &[u8], lent: &mut Lent) -> Result<(), Fault> {
+    let command = Command::parse(line)?;
     match command.parts() {
         (b"n", &[n]) => lent.vertices = n,
         (b"words", &[count, value]) => lent.lend_words(count, value as u64)?,
         (b"put", &[place, ref values @ ..]) if !values.is_empty() => lent.put(place, values)?,
         (b"bytes", &[count, value]) => lent.lend_bytes(count, u8::try_from(value)?)?,
-        (b"keep", []) => lent.keep()?,
+        (b"keep", []) => lent.keep(),
         (b"same", []) => println!(rt; "same words {}", u8::from(lent.are_kept()))?,
         (b"show_sizes", []) => {
             println!(rt; "vertices {} words {}", lent.vertices, lent.words.len())?
@@ -67,12 +67,12 @@ fn obey_command<R: Print + AllocGlobal>(rt: &R, line: &[u8], lent: &mut Lent) ->
 }
 
 // A line of the script obeyed. Text stands after some names; numbers, if any, after the others.
-fn obey<R: Print + AllocGlobal>(rt: &R, line: &[u8], lent: &mut Lent) -> Result<(), Fault> {
+fn obey(rt: &impl Print, line: &[u8], lent: &mut Lent) -> Result<(), Fault> {
     let text = command::text(line);
     match command::name(line) {
         b"heading" => show::bytes(rt, text)?,
         b"plan" => lent.lend_plan(text)?,
-        b"quiet" => calls::quiet(rt.alloc(), text, lent)?,
+        b"quiet" => calls::quiet(text, lent)?,
         b"made" => calls::made(rt, text, lent.bytes.as_mut_slice())?,
         _ => obey_command(rt, line, lent)?,
     }
@@ -80,7 +80,7 @@ fn obey<R: Print + AllocGlobal>(rt: &R, line: &[u8], lent: &mut Lent) -> Result<
 }
 
 // A piece of the script up to a line feed: its line obeyed, if it is not one to skip. No command is without its line feed.
-fn obey_piece<R: Print + AllocGlobal>(rt: &R, piece: &[u8], lent: &mut Lent) -> Result<(), Fault> {
+fn obey_piece(rt: &impl Print, piece: &[u8], lent: &mut Lent) -> Result<(), Fault> {
     match piece.strip_suffix(b"\n") {
         None => Err(Fault::NotACommand),
         Some([] | [b'#', ..]) => Ok(()),
@@ -89,8 +89,8 @@ fn obey_piece<R: Print + AllocGlobal>(rt: &R, piece: &[u8], lent: &mut Lent) -> 
 }
 
 // The lines of a script, obeyed in order, up to the first that is no command.
-fn run<R: Print + AllocGlobal>(rt: &R, text: &[u8]) -> io::Result<()> {
-    let mut lent = Lent::new(rt.alloc())?;
+fn run(rt: &impl Print, text: &[u8]) -> io::Result<()> {
+    let mut lent = Lent::new();
     for (k, piece) in (1..).zip(text.split_inclusive(|byte| *byte == b'\n')) {
         match obey_piece(rt, piece, &mut lent) {
             Ok(()) => {}

@@ -1,5 +1,5 @@
 -- crate::decimal meets its contract: a word of digits is text, and `parse` reads it. Assumes nothing.
-use Rattle.std.proofs.Common.{rules, tests, ◌≡◌, List, ℕ, true, false}
+use Rattle.std.proofs.Common.{rules, tests, ◌≡◌, true}
 use Rattle.std.specs.Char.{is_ascii_digit}
 use Rattle.std.specs.List.{list_all}
 use Rattle.std.specs.Str.Parse.{digits_value}
