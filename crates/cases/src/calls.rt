@@ -1,97 +1,99 @@
 // The public calls, by the lines of the script.
-use crate::{BYTES, show};
+use crate::command::{Command, NUMBERS};
+use crate::fault::Fault;
+use crate::lent::Lent;
+use crate::show;
+use arrayvec::ArrayVec;
 use sheet::{Answer, Sheet};
-use std::io;
 
-// What comes of a line.
-#[derive(Drop)]
-pub enum Outcome {
-    // What a call that may write words answers.
-    Edited(Answer),
-    // What any other call answers.
-    Asked(Answer),
-    // There is nothing to print.
-    Done,
-    // The line is no command, or a number in it is too great.
-    Other,
+// The answer of a call that may write words.
+fn edit(call: &Command<'_>, lent: &mut Lent) -> Option<Answer> {
+    let (n, words) = (lent.vertices, lent.words.as_mut_slice());
+    Some(match call.parts() {
+        (b"empty", []) => sheet::empty(n, words),
+        (b"insert_edge", &[from, to]) => edit::insert_edge(n, words, from, to),
+        (b"delete_edge", &[from, to]) => edit::delete_edge(n, words, from, to),
+        (b"insert_edges_at", &[i, to, from]) => {
+            edit::insert_edges_at(n, words, i, to as u64, from as u64)
+        }
+        (b"delete_edges_at", &[i, to, from]) => {
+            edit::delete_edges_at(n, words, i, to as u64, from as u64)
+        }
+        (b"recount", []) => recount::recount(n, words),
+        (b"read_plan", &[count]) => plan::read_plan(n, words, lent.bytes.as_slice().get(..count)?),
+        _ => return None,
+    })
 }
 
-// A plan read: the first so many of the lent bytes.
-fn read_plan(n: usize, words: &mut [u64], plan: &[u8], count: usize) -> Outcome {
-    if plan.len() < count {
-        return Outcome::Other;
+// The rank of a path.
+fn rank(n: usize, words: &[u64], vertices: &[usize]) -> Result<Answer, Fault> {
+    let mut path = ArrayVec::<u8, NUMBERS>::new();
+    for vertex in vertices {
+        path.try_push(u8::try_from(*vertex)?)?;
     }
-    Outcome::Edited(plan::read_plan(n, words, &plan[0..count]))
+    Ok(query::rank(n, words, path.as_slice()))
 }
 
-// A plan written to the first so many of the lent bytes.
-fn write_plan(n: usize, words: &[u64], plan: &mut [u8], count: usize) -> Outcome {
-    if plan.len() < count {
-        return Outcome::Other;
-    }
-    Outcome::Asked(plan::write_plan(n, words, &mut plan[0..count]))
+// The answer of a call that writes no word, of the sheet of these words.
+fn ask(call: &Command<'_>, n: usize, words: &[u64], bytes: &mut [u8]) -> Result<Answer, Fault> {
+    Ok(match call.parts() {
+        (b"path_count", &[from, to]) => sheet::path_count(n, words, from, to),
+        (b"validate", []) => recount::validate(n, words),
+        (b"reaches_without", &[from, to, i, j]) => {
+            query::reaches_without(n, words, from, to, i, j)
+        }
+        (b"unrank", &[from, to, k]) => query::unrank(n, words, from, to, k as u64, bytes),
+        (b"rank", vertices) => rank(n, words, vertices)?,
+        (b"write_plan", &[count]) => {
+            let plan = bytes.get_mut(..count).ok_or(Fault::NotACommand)?;
+            plan::write_plan(n, words, plan)
+        }
+        _ => return Err(Fault::NotACommand),
+    })
 }
 
-// The rank of a path, whose vertices stand in the line.
-fn rank(line: &[u8], n: usize, words: &[u64]) -> Outcome {
-    let mut buffer = [0u8; BYTES];
-    let path = script::bytes_of(line, &mut buffer);
-    if path.len() != script::words(line) {
-        return Outcome::Other;
-    }
-    Outcome::Asked(query::rank(n, words, path))
+// The answer of a call that writes no word, of the lent words.
+fn ask_lent(call: &Command<'_>, lent: &mut Lent) -> Result<Answer, Fault> {
+    ask(
+        call,
+        lent.vertices,
+        lent.words.as_slice(),
+        lent.bytes.as_mut_slice(),
+    )
 }
 
-// The calls that write no word: an arm for each form, in the same order.
-fn ask(line: &[u8], n: usize, words: &[u64], bytes: &mut [u8]) -> Outcome {
-    let x = script::decimals(line);
-    match script::form(
-        line,
-        b"path_count 2/validate 0/reaches_without 4/unrank 3/rank */write_plan 1/",
-    ) {
-        0 => Outcome::Asked(sheet::path_count(n, words, x.0, x.1)),
-        1 => Outcome::Asked(recount::validate(n, words)),
-        2 => Outcome::Asked(query::reaches_without(n, words, x.0, x.1, x.2, x.3)),
-        3 => Outcome::Asked(query::unrank(n, words, x.0, x.1, x.2 as u64, bytes)),
-        4 => rank(line, n, words),
-        5 => write_plan(n, words, bytes, x.0),
-        _ => Outcome::Other,
+// A call with its lines: its line of the script with the answer, and, if it may write words, whether they are as before.
+pub fn shown(
+    rt: &impl Print,
+    line: &[u8],
+    call: &Command<'_>,
+    lent: &mut Lent,
+) -> Result<(), Fault> {
+    let before = lent.words.clone()?;
+    if let Some(answer) = edit(call, lent) {
+        show::answer(rt, line, answer)?;
+        println!(rt; "unchanged {}", u8::from(lent.words == before))?;
+    } else {
+        let answer = ask_lent(call, lent)?;
+        show::answer(rt, line, answer)?;
     }
-}
-
-// The calls: an arm for each form of those that may write words, in the same order, and then the others.
-pub fn answer(line: &[u8], n: usize, words: &mut [u64], bytes: &mut [u8]) -> Outcome {
-    let x = script::decimals(line);
-    match script::form(
-        line,
-        b"empty 0/insert_edge 2/delete_edge 2/insert_edges_at 3/delete_edges_at 3/recount 0/read_plan 1/",
-    ) {
-        0 => Outcome::Edited(sheet::empty(n, words)),
-        1 => Outcome::Edited(edit::insert_edge(n, words, x.0, x.1)),
-        2 => Outcome::Edited(edit::delete_edge(n, words, x.0, x.1)),
-        3 => Outcome::Edited(edit::insert_edges_at(n, words, x.0, x.1 as u64, x.2 as u64)),
-        4 => Outcome::Edited(edit::delete_edges_at(n, words, x.0, x.1 as u64, x.2 as u64)),
-        5 => Outcome::Edited(recount::recount(n, words)),
-        6 => read_plan(n, words, bytes, x.0),
-        _ => ask(line, n, words, bytes),
-    }
+    Ok(())
 }
 
 // A call without its lines.
-pub fn quiet(line: &[u8], n: usize, words: &mut [u64], bytes: &mut [u8]) -> Outcome {
-    match answer(line, n, words, bytes) {
-        Outcome::Other => Outcome::Other,
-        _ => Outcome::Done,
+pub fn quiet(line: &[u8], lent: &mut Lent) -> Result<(), Fault> {
+    let call = Command::parse(line)?;
+    if edit(&call, lent).is_none() {
+        ask_lent(&call, lent)?;
     }
+    Ok(())
 }
 
 // A call that writes no word, of the sheet that the library makes, with its line.
-pub fn made(rt: &impl Print, line: &[u8], bytes: &mut [u8]) -> io::Result<Outcome> {
+pub fn made(rt: &impl Print, line: &[u8], bytes: &mut [u8]) -> Result<(), Fault> {
+    let call = Command::parse(line)?;
     let sheet = Sheet::new();
-    let words = sheet.words;
-    let Outcome::Asked(a) = ask(line, Sheet::VERTICES, &words, bytes) else {
-        return Ok(Outcome::Other);
-    };
-    show::answer(rt, line, a)?;
-    Ok(Outcome::Done)
+    let answer = ask(&call, Sheet::VERTICES, &sheet.words, bytes)?;
+    show::answer(rt, line, answer)?;
+    Ok(())
 }

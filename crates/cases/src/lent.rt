@@ -1,110 +1,103 @@
-// What the calls are lent, and the commands that change it.
-use crate::{BYTES, WORDS, show};
-use std::io;
+// What the calls are lent.
+use crate::fault::Fault;
+use arrayvec::ArrayVec;
+use std::iter;
 
-// The number of vertices that the calls are told, and how many words and bytes they are lent.
-#[derive(Clone, Copy)]
-pub struct Lent {
-    pub n: usize,
-    pub words: usize,
-    pub bytes: usize,
-}
+// The words of a sheet of 65 vertices, were there one: no case lends more.
+const WORDS: usize = 4290;
 
-// What comes of a line.
+// One record more than the longest plan has: no case lends more bytes.
+const BYTES: usize = 32776;
+
+// What the calls are told and lent, and the words kept.
 #[derive(Drop)]
-pub enum Step {
-    // What the calls are lent after it.
-    Next(Lent),
-    // The line is none of the commands, or a number in it is too great.
-    Other,
+pub struct Lent {
+    // The number of vertices.
+    pub vertices: usize,
+    // The words of a sheet.
+    pub words: ArrayVec<u64, WORDS>,
+    // The bytes of a path or of a plan.
+    pub bytes: ArrayVec<u8, BYTES>,
+    // The value that the words were lent with.
+    value: u64,
+    // The words kept, and after them the value that they were lent with, up to the most words that can be lent.
+    kept: [u64; WORDS],
 }
 
-// Another number of vertices.
-fn vertices(mut lent: Lent, n: usize) -> Step {
-    lent.n = n;
-    Step::Next(lent)
-}
-
-// So many words of this value lent.
-fn lend_words(mut lent: Lent, words: &mut [u64; WORDS], count: usize, value: usize) -> Step {
-    if WORDS < count {
-        return Step::Other;
+// So many items of one value, if there are no more than the most.
+fn filled<T: Copy + Default + Drop, const MOST: usize>(
+    count: usize,
+    value: T,
+) -> Result<ArrayVec<T, MOST>, Fault> {
+    let mut items = ArrayVec::new();
+    for _ in 0..count {
+        items.try_push(value)?;
     }
-    *words = [value as u64; WORDS];
-    lent.words = count;
-    Step::Next(lent)
+    Ok(items)
 }
 
-// Values stored from word k on: the line has k, then the values.
-fn put(line: &[u8], lent: Lent, words: &mut [u64], k: usize) -> Step {
-    let count = lent.words;
-    if words.len() < count {
-        return Step::Other;
+impl Lent {
+    // Nothing lent, and words of value 0 kept.
+    pub fn new() -> Lent {
+        Lent {
+            vertices: 0,
+            words: ArrayVec::new(),
+            bytes: ArrayVec::new(),
+            value: 0,
+            kept: [0; WORDS],
+        }
     }
-    if count < k || script::words(line) == 0 {
-        return Step::Other;
-    }
-    if script::put_words(line, &mut words[k..count]) {
-        return Step::Next(lent);
-    }
-    Step::Other
-}
 
-// So many bytes of this value lent.
-fn lend_bytes(mut lent: Lent, bytes: &mut [u8; BYTES], count: usize, value: usize) -> Step {
-    if BYTES < count || script::GREATEST_BYTE < value {
-        return Step::Other;
+    // Lends so many words of this value.
+    pub fn lend_words(&mut self, count: usize, value: u64) -> Result<(), Fault> {
+        self.words = filled(count, value)?;
+        self.value = value;
+        Ok(())
     }
-    *bytes = [value as u8; BYTES];
-    lent.bytes = count;
-    Step::Next(lent)
-}
 
-// The bytes of a plan lent.
-fn plan(text: &[u8], mut lent: Lent, bytes: &mut [u8]) -> Step {
-    if !script::put_text(text, bytes) {
-        return Step::Other;
+    // Stores values in the lent words from a place on.
+    pub fn put(&mut self, place: usize, values: &[usize]) -> Result<(), Fault> {
+        let (_, words) = self
+            .words
+            .as_mut_slice()
+            .split_at_mut_checked(place)
+            .ok_or(Fault::NotACommand)?;
+        if words.len() < values.len() {
+            return Err(Fault::NotACommand);
+        }
+        for (word, value) in words.iter_mut().zip(values) {
+            *word = *value as u64;
+        }
+        Ok(())
     }
-    lent.bytes = text.len();
-    Step::Next(lent)
-}
 
-// The words kept.
-fn keep(lent: Lent, words: &[u64; WORDS], kept: &mut [u64; WORDS]) -> Step {
-    *kept = *words;
-    Step::Next(lent)
-}
-
-// A line that says whether the lent words are those kept.
-fn same(rt: &impl Print, lent: Lent, words: &[u64], kept: &[u64]) -> io::Result<Step> {
-    let count = lent.words;
-    if words.len() < count {
-        return Ok(Step::Other);
+    // Lends so many bytes of this value.
+    pub fn lend_bytes(&mut self, count: usize, value: u8) -> Result<(), Fault> {
+        self.bytes = filled(count, value)?;
+        Ok(())
     }
-    show::same(rt, b"same words ", kept, &words[0..count])?;
-    Ok(Step::Next(lent))
-}
 
-// The commands that change what the calls are lent, or keep it.
-pub fn set(
-    rt: &impl Print,
-    line: &[u8],
-    lent: Lent,
-    words: &mut [u64; WORDS],
-    bytes: &mut [u8; BYTES],
-    kept: &mut [u64; WORDS],
-) -> io::Result<Step> {
-    let x = script::decimals(line);
-    Ok(
-        match script::form(line, b"n 1/words 2/put */bytes 2/plan/keep 0/same 0/") {
-            0 => vertices(lent, x.0),
-            1 => lend_words(lent, words, x.0, x.1),
-            2 => put(script::tail(line), lent, words, x.0),
-            3 => lend_bytes(lent, bytes, x.0, x.1),
-            4 => plan(script::tail(line), lent, bytes),
-            5 => keep(lent, words, kept),
-            6 => same(rt, lent, words, kept)?,
-            _ => Step::Other,
-        },
-    )
+    // Lends the bytes of a text, with a line feed in place of each `/`.
+    pub fn lend_plan(&mut self, text: &[u8]) -> Result<(), Fault> {
+        self.bytes.clear();
+        for byte in text {
+            self.bytes
+                .try_push(if *byte == b'/' { b'\n' } else { *byte })?;
+        }
+        Ok(())
+    }
+
+    // Keeps the lent words.
+    pub fn keep(&mut self) {
+        let after = iter::repeat(self.value);
+        let words = self.words.as_slice().iter().copied().chain(after);
+        for (kept, word) in self.kept.iter_mut().zip(words) {
+            *kept = word;
+        }
+    }
+
+    // Whether the lent words are those kept.
+    pub fn are_kept(&self) -> bool {
+        self.kept.starts_with(self.words.as_slice())
+    }
 }

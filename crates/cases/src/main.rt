@@ -25,147 +25,86 @@
 //     made NAME ..         a call that writes no word, of the sheet of 64 vertices that `Sheet::new()` makes
 #![tactic(auto)]
 
-mod buffer;
 mod calls;
+mod command;
+mod fault;
 mod lent;
 mod show;
 
-use calls::Outcome;
-use lent::{Lent, Step};
+use command::Command;
+use fault::Fault;
+use lent::Lent;
+use sheet::Sheet;
 use std::io;
 
-// The words of a sheet of 65 vertices, were there one: no case lends more.
-pub const WORDS: usize = 4290;
-
-// The bytes of the buffer for the script, which has to be longer than the script.
-const INPUT: usize = 65536;
-
-// One record more than the longest plan has: no case lends more bytes.
-pub const BYTES: usize = 32776;
-
-// The commands that print, and the calls: an arm for each form, in the same order.
-fn show_or_call(
-    rt: &impl Print,
-    line: &[u8],
-    n: usize,
-    words: &mut [u64],
-    bytes: &mut [u8],
-) -> io::Result<Outcome> {
-    match script::form(
-        line,
-        b"heading/show_sizes 0/show_words 0/show_bytes 0/show_text 0/show_limits 0/quiet/made/",
-    ) {
-        0 => script::print_line(rt, script::tail(line))?,
-        1 => show::sizes(rt, n, words.len())?,
-        2 => script::print_words(rt, words)?,
-        3 => script::print_bytes(rt, bytes)?,
-        4 => script::print_line(rt, bytes)?,
-        5 => show::limits(rt)?,
-        6 => return Ok(calls::quiet(script::tail(line), n, words, bytes)),
-        7 => return calls::made(rt, script::tail(line), bytes),
-        _ => return Ok(calls::answer(line, n, words, bytes)),
-    }
-    Ok(Outcome::Done)
-}
-
-// The same on the parts of the buffers that are lent.
-fn on_lent(
-    rt: &impl Print,
-    line: &[u8],
-    lent: Lent,
-    words: &mut [u64],
-    bytes: &mut [u8],
-) -> io::Result<Outcome> {
-    let count = lent.words;
-    let length = lent.bytes;
-    if words.len() < count {
-        return Ok(Outcome::Other);
-    }
-    if bytes.len() < length {
-        return Ok(Outcome::Other);
-    }
-    show_or_call(
-        rt,
-        line,
-        lent.n,
-        &mut words[0..count],
-        &mut bytes[0..length],
-    )
-}
-
-// The lines of a call: its line of the script with the answer, and, if it may write words, whether they are as before.
-fn report(
-    rt: &impl Print,
-    line: &[u8],
-    outcome: Outcome,
-    lent: Lent,
-    before: &[u64],
-    words: &[u64],
-) -> io::Result<Step> {
-    match outcome {
-        Outcome::Edited(a) => {
-            show::answer(rt, line, a)?;
-            show::same(rt, b"unchanged ", before, words)?;
+// A command that is a name with numbers.
+fn obey_command(rt: &impl Print, line: &[u8], lent: &mut Lent) -> Result<(), Fault> {
+    let command = Command::parse(line)?;
+    match command.parts() {
+        (b"n", &[n]) => lent.vertices = n,
+        (b"words", &[count, value]) => lent.lend_words(count, value as u64)?,
+        (b"put", &[place, ref values @ ..]) if !values.is_empty() => lent.put(place, values)?,
+        (b"bytes", &[count, value]) => lent.lend_bytes(count, u8::try_from(value)?)?,
+        (b"keep", []) => lent.keep(),
+        (b"same", []) => println!(rt; "same words {}", u8::from(lent.are_kept()))?,
+        (b"show_sizes", []) => {
+            println!(rt; "vertices {} words {}", lent.vertices, lent.words.len())?
         }
-        Outcome::Asked(a) => show::answer(rt, line, a)?,
-        Outcome::Done => {}
-        Outcome::Other => return Ok(Step::Other),
+        (b"show_words", []) => show::numbers(rt, "words", lent.words.as_slice())?,
+        (b"show_bytes", []) => show::numbers(rt, "bytes", lent.bytes.as_slice())?,
+        (b"show_text", []) => show::bytes(rt, lent.bytes.as_slice())?,
+        (b"show_limits", []) => {
+            println!(rt;
+                "vertices {} words {} edges {}",
+                Sheet::VERTICES,
+                Sheet::WORDS,
+                Sheet::EDGES
+            )?
+        }
+        _ => calls::shown(rt, line, &command, lent)?,
     }
-    Ok(Step::Next(lent))
+    Ok(())
 }
 
-// A line of the script obeyed.
-fn obey(
-    rt: &impl Print,
-    line: &[u8],
-    lent: Lent,
-    words: &mut [u64; WORDS],
-    bytes: &mut [u8; BYTES],
-    kept: &mut [u64; WORDS],
-) -> io::Result<Step> {
-    if line.len() == 0 || line[0] == b'#' {
-        return Ok(Step::Next(lent));
+// A line of the script obeyed. Text stands after some names; numbers, if any, after the others.
+fn obey(rt: &impl Print, line: &[u8], lent: &mut Lent) -> Result<(), Fault> {
+    let text = command::text(line);
+    match command::name(line) {
+        b"heading" => show::bytes(rt, text)?,
+        b"plan" => lent.lend_plan(text)?,
+        b"quiet" => calls::quiet(text, lent)?,
+        b"made" => calls::made(rt, text, lent.bytes.as_mut_slice())?,
+        _ => obey_command(rt, line, lent)?,
     }
-    if let Step::Next(next) = lent::set(rt, line, lent, words, bytes, kept)? {
-        return Ok(Step::Next(next));
-    }
-    let before = *words;
-    let outcome = on_lent(rt, line, lent, words, bytes)?;
-    report(rt, line, outcome, lent, &before, words)
+    Ok(())
 }
 
-// The end of a script after k lines: where some text is left, its first line is no command, or no line feed ends it.
-fn end(rt: &impl Print, rest: &[u8], k: u64) -> io::Result<()> {
-    if rest.len() == 0 {
-        return Ok(());
+// A piece of the script up to a line feed: its line obeyed, if it is not one to skip. No command is without its line feed.
+fn obey_piece(rt: &impl Print, piece: &[u8], lent: &mut Lent) -> Result<(), Fault> {
+    match piece.strip_suffix(b"\n") {
+        None => Err(Fault::NotACommand),
+        Some([] | [b'#', ..]) => Ok(()),
+        Some(line) => obey(rt, line, lent),
     }
-    script::print_last(rt, b"not a command: line ", k.wrapping_add(1))
 }
 
-// The lines of a script, obeyed in order.
+// The lines of a script, obeyed in order, up to the first that is no command.
 fn run(rt: &impl Print, text: &[u8]) -> io::Result<()> {
-    let mut words = [0u64; WORDS];
-    let mut kept = [0u64; WORDS];
-    let mut bytes = [0u8; BYTES];
-    let mut lent = Lent {
-        n: 0,
-        words: 0,
-        bytes: 0,
-    };
-    let lines = script::count(text, script::LINE_FEED);
-    let mut k = 0;
-    while k < lines {
-        let line = script::part(text, script::LINE_FEED, k);
-        let Step::Next(next) = obey(rt, line, lent, &mut words, &mut bytes, &mut kept)? else {
-            break;
-        };
-        lent = next;
-        k += 1;
+    let mut lent = Lent::new();
+    for (k, piece) in (1..).zip(text.split_inclusive(|byte| *byte == b'\n')) {
+        match obey_piece(rt, piece, &mut lent) {
+            Ok(()) => {}
+            Err(Fault::NotACommand) => return println!(rt; "not a command: line {k}"),
+            Err(Fault::Io(error)) => return Err(error),
+        }
     }
-    end(rt, script::skip(text, script::LINE_FEED, k), k as u64)
+    Ok(())
 }
 
 fn main(rt: HostRuntime) -> io::Result<()> {
-    let mut buffer = [0u8; INPUT];
-    run(&rt, script::input(&rt, &mut buffer)?)
+    let mut buffer = [0u8; script::INPUT];
+    match script::input(&rt, &mut buffer)? {
+        Some(text) => run(&rt, text),
+        None => println!(rt; "the input is too long"),
+    }
 }

@@ -1,30 +1,30 @@
-// The lines that are printed.
-use crate::buffer;
-use sheet::{Answer, Sheet};
+// The lines that are printed. What stands in the script is printed byte for byte, since it need not be text.
+use sheet::Answer;
+use std::fmt::Display;
 use std::io;
 
+// A line of some bytes.
+pub fn bytes(rt: &impl Print, line: &[u8]) -> io::Result<()> {
+    rt.write_all(line)?;
+    println!(rt)
+}
+
 // A line with a call and what it answers.
-pub fn answer(rt: &impl Print, line: &[u8], a: Answer) -> io::Result<()> {
-    script::print(rt, line)?;
-    script::print_decimal(rt, b" number ", a.number)?;
-    script::print_decimal(rt, b" place ", a.place)?;
-    script::print_last(rt, b" value ", a.value)
+pub fn answer(rt: &impl Print, line: &[u8], answer: Answer) -> io::Result<()> {
+    rt.write_all(line)?;
+    let Answer {
+        number,
+        place,
+        value,
+    } = answer;
+    println!(rt; " number {number} place {place} value {value}")
 }
 
-// A line that says whether two buffers have the same words: 1 or 0.
-pub fn same(rt: &impl Print, label: &[u8], kept: &[u64], words: &[u64]) -> io::Result<()> {
-    script::print_last(rt, label, buffer::begins(kept, words) as u64)
-}
-
-// A line with the number of vertices and of words.
-pub fn sizes(rt: &impl Print, n: usize, words: usize) -> io::Result<()> {
-    script::print_decimal(rt, b"vertices ", n as u64)?;
-    script::print_last(rt, b" words ", words as u64)
-}
-
-// A line with the constants of the type `Sheet`.
-pub fn limits(rt: &impl Print) -> io::Result<()> {
-    script::print_decimal(rt, b"vertices ", Sheet::VERTICES as u64)?;
-    script::print_decimal(rt, b" words ", Sheet::WORDS as u64)?;
-    script::print_last(rt, b" edges ", Sheet::EDGES as u64)
+// A line of numbers.
+pub fn numbers<N: Display>(rt: &impl Print, label: &str, numbers: &[N]) -> io::Result<()> {
+    print!(rt; "{label}")?;
+    for number in numbers {
+        print!(rt; " {number}")?;
+    }
+    println!(rt)
 }

@@ -1,68 +1,97 @@
-// The paths of a sheet, listed: each comes from `query::unrank`, and `query::rank` has to give its rank back.
-use crate::lines;
+// The paths of a graph, listed: each comes from `query::unrank`, and `query::rank` has to give its rank back.
+use crate::graph::{self, Graph};
 use sheet::{Refusal, Sheet};
-use std::io;
+use std::{fmt, io};
 
-// The path of rank k, on a line of its own: whether there is one. What the two calls should not answer has a line too.
-fn path(
-    rt: &impl Print,
-    n: usize,
-    sheet: &[u64],
-    from: usize,
-    to: usize,
-    k: u64,
-) -> io::Result<bool> {
-    let mut bytes = [0u8; Sheet::VERTICES];
-    let found = query::unrank(n, sheet, from, to, k, &mut bytes);
-    if found.number == Numbers::NO_SUCH_PATH {
-        return Ok(false);
-    }
-    if found.number != 0 {
-        script::print_last(rt, b"unrank refused ", found.number)?;
-        return Ok(false);
-    }
-    let count = found.value as usize;
-    if Sheet::VERTICES < count {
-        script::print_last(rt, b"unrank wrote ", found.value)?;
-        return Ok(false);
-    }
-    let vertices = &bytes[0..count];
-    lines::path(rt, from, to, k, vertices)?;
-    let back = query::rank(n, sheet, vertices);
-    if back.number != 0 || back.value != k {
-        script::print_last(rt, b"rank answered ", back.value)?;
-    }
-    Ok(true)
+// What `query::unrank` answers in place of a path.
+#[derive(Drop)]
+enum Unranked {
+    // It refuses by this number.
+    Refused(u64),
+    // It has written so many vertices, more than a path has.
+    Wrote(u64),
 }
 
-// The paths from one vertex to another, by ascending rank, until there is none.
-fn paths_between(
-    rt: &impl Print,
-    n: usize,
-    sheet: &[u64],
-    from: usize,
-    to: usize,
-) -> io::Result<()> {
-    for k in 0..u64::MAX {
-        if !path(rt, n, sheet, from, to, k)? {
-            break;
+impl fmt::Display for Unranked {
+    fn fmt<W: fmt::Write>(&self, f: &mut fmt::Formatter<W>) -> fmt::Result {
+        match self {
+            Unranked::Refused(number) => write!(f, "unrank refused {number}"),
+            Unranked::Wrote(count) => write!(f, "unrank wrote {count}"),
         }
     }
-    Ok(())
 }
 
-// The paths from one vertex to each.
-fn paths_from(rt: &impl Print, n: usize, sheet: &[u64], from: usize) -> io::Result<()> {
-    for to in 0..n {
-        paths_between(rt, n, sheet, from, to)?;
+impl From<u64> for Unranked {
+    fn from(number: u64) -> Unranked {
+        Unranked::Refused(number)
     }
-    Ok(())
 }
 
-// The paths from each vertex to each.
-pub fn paths(rt: &impl Print, n: usize, sheet: &[u64]) -> io::Result<()> {
-    for from in 0..n {
-        paths_from(rt, n, sheet, from)?;
+impl Graph<'_> {
+    // The vertices of a path by its ends and its rank, in lent bytes.
+    fn path<'b>(
+        &self,
+        from: usize,
+        to: usize,
+        rank: u64,
+        bytes: &'b mut [u8; Sheet::VERTICES],
+    ) -> Result<&'b [u8], Unranked> {
+        let answer = query::unrank(self.vertices, self.sheet, from, to, rank, bytes);
+        let count = graph::outcome(answer)?;
+        bytes.get(..count as usize).ok_or(Unranked::Wrote(count))
     }
-    Ok(())
+
+    // The line of a path: its ends, its rank, its vertices, of two digits each. A rank that is not given back has a line too.
+    fn print_path(
+        &self,
+        rt: &impl Print,
+        from: usize,
+        to: usize,
+        rank: u64,
+        vertices: &[u8],
+    ) -> io::Result<()> {
+        print!(rt; "{from:02} {to:02} {rank}:")?;
+        for vertex in vertices {
+            print!(rt; " {vertex:02}")?;
+        }
+        println!(rt)?;
+        let back = query::rank(self.vertices, self.sheet, vertices);
+        if back.number != 0 || back.value != rank {
+            println!(rt; "rank answered {}", back.value)?;
+        }
+        Ok(())
+    }
+
+    // The paths from one vertex to another, by ascending rank, until there is none.
+    fn list_between(&self, rt: &impl Print, from: usize, to: usize) -> io::Result<()> {
+        for rank in 0..u64::MAX {
+            let mut bytes = [0; Sheet::VERTICES];
+            match self.path(from, to, rank, &mut bytes) {
+                Ok(vertices) => self.print_path(rt, from, to, rank, vertices)?,
+                Err(Unranked::Refused(Refusal::NO_SUCH_PATH)) => break,
+                Err(unranked) => return println!(rt; "{unranked}"),
+            }
+        }
+        Ok(())
+    }
+
+    // The paths from one vertex to each.
+    fn list_from(&self, rt: &impl Print, from: usize) -> io::Result<()> {
+        for to in 0..self.vertices {
+            self.list_between(rt, from, to)?;
+        }
+        Ok(())
+    }
+
+    // The paths from each vertex to each, under a heading with the number of the graph.
+    pub fn list(&self, rt: &impl Print, number: u64) -> io::Result<()> {
+        println!(rt;
+            "orchard {number} stations {} pipes {}",
+            self.vertices, self.edges
+        )?;
+        for from in 0..self.vertices {
+            self.list_from(rt, from)?;
+        }
+        Ok(())
+    }
 }
