@@ -2,7 +2,7 @@
 #![tactic(auto)]
 
 ghost use Rattle.std.specs.Prelude.{◌≡◌};
-ghost use Rattle.answer.specs.Answers.{answer, number_of_refusal, answer_of};
+ghost use Rattle.answer.specs.Answers.{number_of_refusal, answer_of};
 
 // Why a call refuses: the rows of document 01's table, by their numbers.
 #[derive(Clone, Copy, Debug, PartialEq, Eq)]
@@ -75,60 +75,4 @@ impl From<Result<u64, Refusal>> for Answer {
             },
         }
     }
-}
-
-impl Answer {
-    // Internal: refused by a number that names no record.
-    pub fn refused(number: u64) -> Answer
-        ensures { result ≡ answer number 0 0 }
-    {
-        Answer {
-            number,
-            place: 0,
-            value: 0,
-        }
-    }
-
-    // Internal: accepted, with a value.
-    pub fn accepted(value: u64) -> Answer
-        ensures { result ≡ answer 0 0 value }
-    {
-        Answer {
-            number: 0,
-            place: 0,
-            value,
-        }
-    }
-}
-
-pub struct Numbers {}
-
-impl Numbers {
-    pub const VERTICES: u64 = 1;
-
-    pub const LENGTH: u64 = 2;
-
-    pub const VERTEX: u64 = 3;
-
-    pub const STRAY_BIT: u64 = 4;
-
-    pub const SELF_LOOP: u64 = 5;
-
-    pub const PRESENT: u64 = 6;
-
-    pub const ABSENT: u64 = 7;
-
-    pub const CYCLE: u64 = 8;
-
-    pub const NOT_VALID: u64 = 9;
-
-    pub const BUFFER: u64 = 10;
-
-    pub const NO_SUCH_PATH: u64 = 11;
-
-    pub const NO_PATH: u64 = 12;
-
-    pub const PLAN_LENGTH: u64 = 13;
-
-    pub const RECORD: u64 = 14;
 }

@@ -16,7 +16,7 @@ use Rattle.word.proofs.VisitLaws.{Visiting, Passes, visiting_start, visiting_mor
 use Rattle.sheet_theory.specs.Layout.{counts_from, count_at}
 use Rattle.sheet_theory.proofs.LayoutLaws.{place_apart}
 use Rattle.sheet.specs.Fill.{over}
-use Rattle.sheet.specs.Internal.{CountsFrom, Place, words_by, combined, SumsBy, CountsSummed, with_counts}
+use Rattle.sheet.specs.Internal.{CountsFrom, Place, combined, SumsBy, CountsSummed, with_counts}
 use Rattle.sheet.proofs.FillLaws.{length_puts, puts_in, puts_change, puts_cong, over_in, over_out}
 
 pub place_count : (n : ℕ) (s : List ℕ) (i j p : ℕ) → Place n i j p → get_or s p 0 ≡ count_at n s i j
@@ -29,19 +29,6 @@ base_count n s i base at j = ap (λ x. get_or s (x + j) 0) at.is
 -- and from a column on those to the columns from it on
 pub block_count : (n : ℕ) (s : List ℕ) (i base c : ℕ) → CountsFrom n i base → (j : ℕ) → get_or s (base + c + j) 0 ≡ count_at n s i (c + j)
 block_count n s i base c at j = ap (λ x. get_or s x 0) (omega (arith, at.is))
-
--- ---- words added to others or taken off them
-
-pub words_more : (op : ℕ → ℕ → ℕ) (s : List ℕ) (base : ℕ) (t w : List ℕ) (j r : ℕ) → w ≡ words_by op j s base t
-    → r ≡ op (get_or w j 0) (get_or s (base + j) 0) → set w j r ≡ words_by op (j + 1) s base t
-words_more op s base t w j r ew er = puts_change t (λ k. k) (λ k x. op x (get_or s (base + k) 0)) w j j r ew refl (λ k q e. omega arith) er
-
-module _ (op : ℕ → ℕ → ℕ) (n : ℕ) (s : List ℕ) (base : ℕ) (t u : List ℕ) (eu : u ≡ words_by op n s base t) where
-  pub words_long : length u ≡ length t
-  words_long = ap length eu ∙ length_puts t (λ j. j) _ n
-
-  pub words_at : (j : ℕ) → j < n → j < length t → get_or u j 0 ≡ op (get_or t j 0) (get_or s (base + j) 0)
-  words_at j h q = ap (λ (l : List ℕ). get_or l j 0) eu ∙ puts_in t (λ k. k) _ n j h q (λ i x y e. omega arith)
 
 -- ---- words combined with others
 
@@ -103,18 +90,6 @@ module _ {op : ℕ → ℕ → ℕ} (wraps : Wraps op) (n : ℕ) (s : List ℕ) 
 
   passes : (t : List ℕ) → Passes n mask (SumsBy op n s c w mask a t)
   passes t k h z was = record { long = was.long; each = λ j l q. terms_pass wraps mask (λ b. count_at n s b (c + j)) (get_or a j 0) n _ k h z (was.each j l q) }
-
-  -- the counts from b are added or taken off
-  pub summing_more : (t u : List ℕ) (rest b base r : ℕ) → w ≤ length a → Summing op n s c w mask a rest t → Lowest rest b → CountsFrom n b base
-      → u ≡ words_by op w s (base + c) t → LowestCleared rest r → Summing op n s c w mask a r u
-  summing_more t u rest b base r h was l at row er =
-      visiting_more n mask _ (passes t) rest was b l _ r er
-      (λ q o p. record {
-        long = words_long op w s (base + c) t u row ∙ p.long;
-        each = λ j hj small.
-            terms_more wraps mask (λ b. count_at n s b (c + j)) (get_or a j 0) b (get_or t j 0) (get_or u j 0) o (p.each j hj small)
-            (words_at op w s (base + c) t u row j hj (omega (arith, p.long)) ∙ ap (op (get_or t j 0)) (block_count n s b base c at j));
-      })
 
   -- the counts from b, of which l has those to the w columns, are combined
   pub summing_next : (t u l : List ℕ) (rest b r m : ℕ) → w ≤ length a → Summing op n s c w mask a rest t → Lowest rest b

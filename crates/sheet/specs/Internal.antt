@@ -31,10 +31,6 @@ diagonal_at n i = count_place n i i
 
 -- ---- words and counts added up
 
--- t with, at each place j below n, what op makes of word j of t and word j of s from base on: `plus` or `minus`
-abbrev pub words_by : (ℕ → ℕ → ℕ) → ℕ → List ℕ → ℕ → List ℕ → List ℕ
-words_by op n s base t = puts t (λ j. j) (λ j. op (get_or t j 0) (get_or s (base + j) 0)) n
-
 -- t with, at each of the first k places, what op makes of the word of t and that of l: `plus` or `minus`
 abbrev pub combined : (ℕ → ℕ → ℕ) → ℕ → List ℕ → List ℕ → List ℕ
 combined op k l t = puts t (λ j. j) (λ j. op (get_or t j 0) (get_or l j 0)) k

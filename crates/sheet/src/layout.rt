@@ -68,11 +68,3 @@ pub(crate) fn count_place(n: usize, i: usize, j: usize) -> usize
 {
     counts_from(n, i) + j
 }
-
-// Internal: the count from vertex i to vertex j.
-pub fn count_at(n: usize, sheet: &[u64], i: usize, j: usize) -> u64
-    requires { (Shape n sheet.now) × (i < n) × (j < n) }
-    ensures { result ≡ count_at n sheet.now i j }
-{
-    sheet[count_place(n, i, j)]
-}

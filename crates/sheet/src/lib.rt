@@ -13,7 +13,7 @@ pub mod layout;
 pub mod view;
 pub mod words;
 
-pub use answer::{Answer, Numbers, Refusal};
+pub use answer::{Answer, Refusal};
 pub use layout::Sheet;
 pub use view::View;
 

@@ -68,7 +68,7 @@ impl<'a> View<'a> {
         requires { i < self.n }
         ensures { CountsFrom self.entry.n i result }
     {
-        self.n + i * self.n
+        layout::counts_from(self.n, i)
     }
 
     // Internal: the counts from vertex i.

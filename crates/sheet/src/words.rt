@@ -1,12 +1,8 @@
-// Words copied, counts added up, and the set bits of the rows.
-ghost use Rattle.std.specs.Prelude.{◌≡◌, ℕ, ◌+◌, ◌≤◌, ◌<◌, ◌^◌, length, get_or};
-ghost use Rattle.word.specs.Wrap.{plus};
-ghost use Rattle.sheet_theory.specs.Layout.{Shape, set_bits};
+// Words copied, and words combined with others.
+ghost use Rattle.std.specs.Prelude.{◌≡◌, ℕ, ◌+◌, ◌≤◌, length, get_or};
 ghost use Rattle.sheet.specs.Fill.{over};
-ghost use Rattle.sheet.specs.Internal.{words_by, combined, SumsBy, CountsSummed};
+ghost use Rattle.sheet.specs.Internal.{combined};
 
-use crate::layout;
-use crate::layout::Sheet;
 use word::Combine;
 
 // Internal: the first `count` words of `from`, written to `to` from base on.
@@ -25,53 +21,4 @@ pub fn combine_words<C: Combine>(words: &[u64], t: &mut [u64])
     for (j, x) in words.iter().enumerate() {
         t[j] = C::combine(t[j], *x);
     }
-}
-
-// Internal: the n words from base on, added to the first n of t, modulo 2^64.
-pub fn add_words(n: usize, words: &[u64], base: usize, t: &mut [u64])
-    requires { (n ≤ length t.old) × (base + n ≤ length words.now) }
-    ensures { t.new ≡ words_by plus n words.now base t.old }
-{
-    let mut j = 0;
-    while j < n {
-        t[j] = word::wrapping_add(t[j], words[base + j]);
-        j += 1;
-    }
-}
-
-// Internal: the counts from the vertices of the mask to the w columns from c on, added to the first w words of t, modulo 2^64.
-pub fn add_counts(n: usize, sheet: &[u64], c: usize, w: usize, mask: u64, t: &mut [u64])
-    requires { (Shape n sheet.now) × (c + w ≤ n) × (mask < 2 ^ n) × (w ≤ length t.old) }
-    ensures { SumsBy plus n sheet.now c w mask t.old t.new n }
-{
-    let mut rest = mask;
-    while rest != 0 {
-        let base = layout::counts_from(n, word::lowest_bit(rest));
-        add_words(w, sheet, base + c, t);
-        rest = word::clear_lowest(rest);
-    }
-}
-
-// Internal: for each j below n, the sum of the counts to j from the vertices of the mask, modulo 2^64.
-pub fn sum_counts(n: usize, sheet: &[u64], mask: u64) -> [u64; Sheet::VERTICES]
-    requires { (Shape n sheet.now) × (mask < 2 ^ n) }
-    ensures { CountsSummed n sheet.now mask result }
-{
-    let mut t = [0u64; Sheet::VERTICES];
-    add_counts(n, sheet, 0, n, mask, &mut t);
-    t
-}
-
-// Internal: the set bits of all rows.
-pub fn count_set_bits(n: usize, sheet: &[u64]) -> u64
-    requires { Shape n sheet.now }
-    ensures { result ≡ set_bits n sheet.now }
-{
-    let mut total = 0;
-    let mut i = 0;
-    while i < n {
-        total += word::count_bits(sheet[i]);
-        i += 1;
-    }
-    total
 }

@@ -1,5 +1,4 @@
 -- `sheet::words::combine_words` meets its contract: a turn combines one word more. Assumes nothing.
-use Rattle.std.proofs.Common.{rules}
 use Rattle.sheet.proofs.FillLaws.{puts_none}
 use Rattle.sheet.proofs.WordsLaws.{combined_more}
 use Rattle.sheet.proofs.words.combine_words.Goals as goal

@@ -1,5 +1,4 @@
 -- `sheet::View::combine_counts` meets its contract: the counts from the vertices that are gone from what is left of the mask are combined. Assumes nothing.
-use Rattle.std.proofs.Common.{length}
 use Rattle.sheet.proofs.WordsLaws.{Summing}
 use Rattle.sheet.proofs.view.View.combine_counts.Given as goal
 

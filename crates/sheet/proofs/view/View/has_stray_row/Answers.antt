@@ -1,5 +1,5 @@
 -- `sheet::View::has_stray_row` meets its contract: each way out is a law of StrayLaws. Assumes nothing.
-use Rattle.std.proofs.Common.{arith, rules}
+use Rattle.std.proofs.Common.{arith}
 use Rattle.sheet_theory.proofs.LayoutLaws.{rows_within}
 use Rattle.sheet.proofs.StrayLaws.{stray_found, stray_none}
 use Rattle.sheet.proofs.view.View.has_stray_row.Goals as goal

@@ -1,5 +1,5 @@
 -- `sheet::View::set_bits` meets its contract: the total of a sheet fits a word. Assumes nothing.
-use Rattle.std.proofs.Common.{get_or, arith, rules}
+use Rattle.std.proofs.Common.{get_or, arith}
 use Rattle.word.proofs.CountLaws.{bit_count_le}
 use Rattle.sheet_theory.proofs.SetBitsLaws.{set_bits_zero, set_bits_more, set_bits_le}
 use Rattle.sheet_theory.proofs.LayoutLaws.{rows_within}
