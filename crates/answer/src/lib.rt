@@ -1,7 +1,8 @@
 // What every call answers, and why calls refuse.
 #![tactic(auto)]
 
-ghost use Rattle.std.specs.Prelude.{◌≡◌};
+ghost use Rattle.std.specs.Prelude.{◌≡◌, ℕ, Result};
+ghost use Rattle.answer.specs.declared.Refusal.{Refusal};
 ghost use Rattle.answer.specs.Answers.{number_of_refusal, answer_of};
 
 // Why a call refuses: the rows of document 01's table, by their numbers.
@@ -73,6 +74,31 @@ impl From<Result<u64, Refusal>> for Answer {
                 place: 0,
                 value: 0,
             },
+        }
+    }
+}
+
+impl Answer {
+    // The outcome of a call that names no record: its value, or why it refuses.
+    pub fn outcome(self) -> Result<u64, Refusal>
+        ensures { (was : Result ℕ Refusal) → self ≡ answer_of was → result ≡ was }
+    {
+        match self.number {
+            1 => Err(Refusal::Vertices),
+            2 => Err(Refusal::Length),
+            3 => Err(Refusal::Vertex),
+            4 => Err(Refusal::StrayBit),
+            5 => Err(Refusal::SelfLoop),
+            6 => Err(Refusal::Present),
+            7 => Err(Refusal::Absent),
+            8 => Err(Refusal::Cycle),
+            9 => Err(Refusal::NotValid),
+            10 => Err(Refusal::Buffer),
+            11 => Err(Refusal::NoSuchPath),
+            12 => Err(Refusal::NoPath),
+            13 => Err(Refusal::PlanLength),
+            14 => Err(Refusal::Record),
+            _ => Ok(self.value),
         }
     }
 }

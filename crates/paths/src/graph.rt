@@ -1,14 +1,6 @@
 // A graph of the input, built by edits from the empty sheet.
 use crate::record::Record;
-use sheet::{Answer, Refusal, Sheet};
-
-// What a call answers: its value, or the number by which it refuses.
-pub fn outcome(answer: Answer) -> Result<u64, u64> {
-    match answer.number {
-        0 => Ok(answer.value),
-        number => Err(number),
-    }
-}
+use sheet::{Refusal, Sheet};
 
 // A graph with its sheet.
 #[derive(Clone, Copy)]
@@ -19,19 +11,19 @@ pub struct Graph<'a> {
 }
 
 impl<'a> Graph<'a> {
-    // The graph at the start of a text, built in lent words, and the text after it; or the number of the first refusal.
+    // The graph at the start of a text, built in lent words, and the text after it; or the first refusal.
     pub fn read<'t>(
         text: &'t [u8],
         words: &'a mut [u64; Sheet::WORDS],
-    ) -> Result<(Graph<'a>, &'t [u8]), u64> {
+    ) -> Result<(Graph<'a>, &'t [u8]), Refusal> {
         let Some((Record::Graph { vertices, edges }, rest)) = Record::split_first(text) else {
-            return Err(Refusal::RECORD);
+            return Err(Refusal::Record);
         };
         if Sheet::VERTICES < vertices {
-            return Err(Refusal::VERTICES);
+            return Err(Refusal::Vertices);
         }
         let sheet = &mut words[..sheet::layout::word_count(vertices)];
-        outcome(sheet::empty(vertices, sheet))?;
+        sheet::empty(vertices, sheet).outcome()?;
         let rest = insert_edges(vertices, sheet, edges, rest)?;
         let graph = Graph {
             vertices,
@@ -42,19 +34,19 @@ impl<'a> Graph<'a> {
     }
 }
 
-// The edges of the first records of a text, inserted, and the text after them; or the number of the first refusal.
+// The edges of the first records of a text, inserted, and the text after them; or the first refusal.
 fn insert_edges<'t>(
     n: usize,
     sheet: &mut [u64],
     edges: usize,
     text: &'t [u8],
-) -> Result<&'t [u8], u64> {
+) -> Result<&'t [u8], Refusal> {
     let mut rest = text;
     for _ in 0..edges {
         let Some((Record::Edge { from, to }, after)) = Record::split_first(rest) else {
-            return Err(Refusal::RECORD);
+            return Err(Refusal::Record);
         };
-        outcome(edit::insert_edge(n, sheet, from, to))?;
+        edit::insert_edge(n, sheet, from, to).outcome()?;
         rest = after;
     }
     Ok(rest)

@@ -1,13 +1,13 @@
 // The paths of a graph, listed: each comes from `query::unrank`, and `query::rank` has to give its rank back.
-use crate::graph::{self, Graph};
+use crate::graph::Graph;
 use sheet::{Refusal, Sheet};
 use std::{fmt, io};
 
 // What `query::unrank` answers in place of a path.
 #[derive(Drop)]
 enum Unranked {
-    // It refuses by this number.
-    Refused(u64),
+    // It refuses.
+    Refused(Refusal),
     // It has written so many vertices, more than a path has.
     Wrote(u64),
 }
@@ -15,15 +15,15 @@ enum Unranked {
 impl fmt::Display for Unranked {
     fn fmt<W: fmt::Write>(&self, f: &mut fmt::Formatter<W>) -> fmt::Result {
         match self {
-            Unranked::Refused(number) => write!(f, "unrank refused {number}"),
+            Unranked::Refused(refusal) => write!(f, "unrank refused {}", refusal.number()),
             Unranked::Wrote(count) => write!(f, "unrank wrote {count}"),
         }
     }
 }
 
-impl From<u64> for Unranked {
-    fn from(number: u64) -> Unranked {
-        Unranked::Refused(number)
+impl From<Refusal> for Unranked {
+    fn from(refusal: Refusal) -> Unranked {
+        Unranked::Refused(refusal)
     }
 }
 
@@ -37,7 +37,7 @@ impl Graph<'_> {
         bytes: &'b mut [u8; Sheet::VERTICES],
     ) -> Result<&'b [u8], Unranked> {
         let answer = query::unrank(self.vertices, self.sheet, from, to, rank, bytes);
-        let count = graph::outcome(answer)?;
+        let count = answer.outcome()?;
         bytes.get(..count as usize).ok_or(Unranked::Wrote(count))
     }
 
@@ -56,7 +56,7 @@ impl Graph<'_> {
         }
         println!(rt)?;
         let back = query::rank(self.vertices, self.sheet, vertices);
-        if back.number != 0 || back.value != rank {
+        if back.outcome() != Ok(rank) {
             println!(rt; "rank answered {}", back.value)?;
         }
         Ok(())
@@ -68,7 +68,7 @@ impl Graph<'_> {
             let mut bytes = [0; Sheet::VERTICES];
             match self.path(from, to, rank, &mut bytes) {
                 Ok(vertices) => self.print_path(rt, from, to, rank, vertices)?,
-                Err(Unranked::Refused(Refusal::NO_SUCH_PATH)) => break,
+                Err(Unranked::Refused(Refusal::NoSuchPath)) => break,
                 Err(unranked) => return println!(rt; "{unranked}"),
             }
         }

@@ -25,7 +25,7 @@ fn list_graphs(rt: &impl Print, text: &[u8]) -> io::Result<()> {
                 graph.list(rt, number)?;
                 rest = after;
             }
-            Err(refusal) => return println!(rt; "orchard {number} refused {refusal}"),
+            Err(refusal) => return println!(rt; "orchard {number} refused {}", refusal.number()),
         }
     }
     Ok(())
