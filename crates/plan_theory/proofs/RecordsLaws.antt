@@ -6,13 +6,15 @@ use Prim.Native.Nat.{ℕ, zero, suc, ◌+◌, ◌-◌, ◌*◌, ◌/◌, ◌%◌
 use native.Mathlib.Omega.{arith}
 use lib.ListN.{length, take, drop}
 use lib.Seq.{drop-drop}
-use Rattle.std.proofs.Common.{Option}
+use Rattle.std.proofs.Common.{Option, map}
+use Rattle.std.specs.Int.{div_ceil}
+use Rattle.std.specs.List.{range_with_len}
 use Rattle.sums.specs.Gather.{gather}
 use Rattle.sums.proofs.SumLaws.{sum_const}
 use Rattle.sums.proofs.GatherLaws.{gather_none, gather_first, gather_cong, gather_length}
 use Rattle.record.specs.declared.Record.{Record}
 use Rattle.record.specs.Record.{decoded}
-use Rattle.record.specs.Reader.{record_at, run_of_records, begun, records_from}
+use Rattle.record.specs.Reader.{record_at, records_from}
 use Rattle.plan_theory.specs.Records.{records}
 
 -- the first m records of some bytes, taken from the front
@@ -37,23 +39,23 @@ first_are (suc m) b =
 pub records_first : (plan : List ℕ) → records plan ≡ first_records (length plan / 8) plan
 records_first plan = first_are (length plan / 8) plan
 
--- a reader of whole records gives them
-run_are : (m : ℕ) (plan : List ℕ) (k : ℕ) → gather m (λ j. record_at plan (k + j) ∷ []) ≡ run_of_records m plan k
-unfolding run_of_records
-run_are zero plan k = gather_none (λ j. record_at plan (k + j) ∷ [])
-run_are (suc m) plan k =
+-- a reader gives them, where all are whole
+each_in_range : (f : ℕ → Option Record) (m k : ℕ) → gather m (λ j. f (k + j) ∷ []) ≡ map f (range_with_len k m)
+each_in_range f zero k = gather_none (λ j. f (k + j) ∷ [])
+each_in_range f (suc m) k =
     let here : k + 0 ≡ k = omega arith in
-    let next : (j : ℕ) → k + suc j ≡ suc k + j = λ j. omega arith in
-    gather_first m (λ j. record_at plan (k + j) ∷ [])
-    ∙ ap₂ (λ (i : ℕ) (l : List (Option Record)). record_at plan i ∷ l) here
-    (gather_cong m _ _ (λ j h. ap (λ (i : ℕ). record_at plan i ∷ []) (next j)) ∙ run_are m plan (suc k))
+    let next : (j : ℕ) → k + suc j ≡ k + 1 + j = λ j. omega arith in
+    gather_first m (λ j. f (k + j) ∷ [])
+    ∙ ap₂ (λ (i : ℕ) (l : List (Option Record)). f i ∷ l) here
+    (gather_cong m _ _ (λ j h. ap (λ (i : ℕ). f i ∷ []) (next j)) ∙ each_in_range f m (k + 1))
 
 pub records_given : (plan : List ℕ) → length plan % 8 ≡ 0 → records_from plan 0 ≡ records plan
 unfolding records_from
 records_given plan w =
-    let count : begun (length plan) - 0 ≡ length plan / 8 = omega arith in
-    ap (λ (m : ℕ). run_of_records m plan 0) count ∙ sym (run_are (length plan / 8) plan 0)
-    ∙ gather_cong (length plan / 8) _ _ (λ j h. ap (λ (i : ℕ). record_at plan i ∷ []) (let e : 0 + j ≡ j = omega arith in e))
+    let count : div_ceil (length plan) 8 - 0 ≡ length plan / 8 = omega arith in
+    let none : (j : ℕ) → 0 + j ≡ j = λ j. omega arith in
+    ap (λ (m : ℕ). map (record_at plan) (range_with_len 0 m)) count ∙ sym (each_in_range (record_at plan) (length plan / 8) 0)
+    ∙ gather_cong (length plan / 8) _ _ (λ j h. ap (λ (i : ℕ). record_at plan i ∷ []) (none j))
 
 -- one for each 8 bytes
 pub records_length : (plan : List ℕ) → length (records plan) ≡ length plan / 8

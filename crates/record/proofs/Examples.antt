@@ -5,7 +5,7 @@ use Prim.Native.Nat.{ℕ}
 use Rattle.std.proofs.Common.{Some, None}
 use Rattle.record.specs.declared.Record.TheVariants.{Insert, Delete}
 use Rattle.record.specs.Record.{are_digits, encoded, insert_letter, delete_letter, decoded}
-use Rattle.record.specs.Reader.{run_of_records, records_from}
+use Rattle.record.specs.Reader.{records_from}
 
 -- `L 00 01` and a line feed
 pub inserts : decoded (76 ∷ 32 ∷ 48 ∷ 48 ∷ 32 ∷ 48 ∷ 49 ∷ 10 ∷ []) ≡ Some (Insert 0 1)
@@ -33,5 +33,5 @@ plan = encoded insert_letter 0 1 ++ (encoded delete_letter 63 7 ++ (76 ∷ []))
 
 -- a reader of them that has got to the second
 pub second : records_from plan 1 ≡ Some (Delete 63 7) ∷ None ∷ []
-unfolding plan records_from run_of_records decoded are_digits
+unfolding plan records_from decoded are_digits
 second = refl

@@ -6,24 +6,25 @@ use native.Mathlib.Omega.{arith}
 use native.Mathlib.Decide.{dec_lt}
 use lib.ListN.{length, take, drop, length-drop}
 use lib.Seq.{take_all}
-use Rattle.std.proofs.Common.{Option}
+use Rattle.std.proofs.Common.{Option, add-one}
+use Rattle.std.specs.Int.{div_ceil}
 use Rattle.std.proofs.lemmas.Iterator.{YieldsList}
 use Rattle.std.proofs.lemmas.Iterator.Consumers.{YieldsList-from_shown}
 use Rattle.record.specs.declared.Record.{Record}
 use Rattle.record.specs.declared.reader.PlanReader.{PlanReader}
 use Rattle.record.specs.Record.{decoded}
-use Rattle.record.specs.Reader.{record_at, run_of_records, begun, records_from, records_left, Reads}
+use Rattle.record.specs.Reader.{record_at, records_from, records_left, Reads}
 
 module _ (plan : List ℕ) (k : ℕ) where
   -- ---- what a reader gives that has got to the record k
 
   pub reading_over : length plan ≤ 8 * k → records_from plan k ≡ []
-  unfolding records_from run_of_records
-  reading_over h = let e : begun (length plan) - k ≡ 0 = omega arith in rw e refl
+  unfolding records_from
+  reading_over h = let e : div_ceil (length plan) 8 - k ≡ 0 = omega arith in rw e refl
 
   pub reading_reads : 8 * k < length plan → records_from plan k ≡ record_at plan k ∷ records_from plan (suc k)
-  unfolding records_from run_of_records
-  reading_reads h = let e : begun (length plan) - k ≡ suc (begun (length plan) - suc k) = omega arith in rw e refl
+  unfolding records_from
+  reading_reads h = let e : div_ceil (length plan) 8 - k ≡ suc (div_ceil (length plan) 8 - suc k) = omega arith in rw (e, add-one) refl
 
   -- ---- what is known of it
 

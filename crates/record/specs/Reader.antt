@@ -1,5 +1,7 @@
 -- The records of a plan, one after the other, as the plan reader gives them. Definitions only. Assumes nothing.
-use Rattle.std.specs.Prelude.{◌≡◌, Option, MatchOption, List, [], ◌∷◌, ℕ, zero, suc, ◌+◌, ◌-◌, ◌*◌, ◌/◌, length, take, drop}
+use Rattle.std.specs.Prelude.{◌≡◌, Option, MatchOption, List, map, ℕ, ◌+◌, ◌-◌, ◌*◌, length, take, drop}
+use Rattle.std.specs.Int.{div_ceil}
+use Rattle.std.specs.List.{range_with_len}
 use Rattle.std.specs.Iterator.{YieldsFirst}
 use Rattle.record.specs.declared.Record.{Record}
 use Rattle.record.specs.declared.reader.PlanReader.{PlanReader}
@@ -9,18 +11,9 @@ use Rattle.record.specs.Record.{record_bytes, decoded}
 abbrev pub record_at : List ℕ → ℕ → Option Record
 record_at plan k = decoded (take record_bytes (drop (record_bytes * k) plan))
 
--- what m records of a plan say, of which the record k is the first
-unfoldable pub run_of_records : ℕ → List ℕ → ℕ → List (Option Record)
-run_of_records zero plan k = []
-run_of_records (suc m) plan k = record_at plan k ∷ run_of_records m plan (suc k)
-
--- how many records begin within so many bytes
-abbrev pub begun : ℕ → ℕ
-begun bytes = (bytes + (record_bytes - 1)) / record_bytes
-
 -- what the records of a plan say from the record k on, to the last that begins within the plan
 unfoldable pub records_from : List ℕ → ℕ → List (Option Record)
-records_from plan k = run_of_records (begun (length plan) - k) plan k
+records_from plan k = map (record_at plan) (range_with_len k (div_ceil (length plan) record_bytes - k))
 
 -- what a reader has left to give, from the record that it has got to on
 abbrev pub records_left : PlanReader → List (Option Record)
