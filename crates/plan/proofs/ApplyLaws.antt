@@ -8,6 +8,7 @@ use lib.Seq.{ext_get_or}
 use Rattle.std.proofs.Common.{Option, Some, None}
 use Rattle.record.specs.declared.Record.{Record}
 use Rattle.record.specs.declared.Record.TheVariants.{Insert, Delete}
+use Rattle.record.specs.Reader.{records_from}
 use Rattle.answer.specs.declared.Answer.{Answer}
 use Rattle.answer.specs.Answers.{answer, decided}
 use Rattle.sheet_theory.specs.Layout.{most_vertices, size, Shape, set_bits}
@@ -21,7 +22,6 @@ use Rattle.edit_theory.proofs.Refusals.{edit_refused}
 use Rattle.plan_theory.specs.Records.{records, number_on, left_by, Applied, applied}
 use Rattle.plan_theory.specs.Calls.{applied_plan}
 use Rattle.plan.specs.Internal.{Reached, AppliedAll}
-use Rattle.record.specs.Reader.{records_from}
 use Rattle.plan_theory.proofs.RecordsLaws.{records_length, records_given}
 use Rattle.plan_theory.proofs.AppliedLaws.{applied_place, applied_next, applied_here}
 

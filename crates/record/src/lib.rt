@@ -1,5 +1,5 @@
 // The records of a plan, 8 bytes each: the capital letter, a space, two digits, a space, two digits, a line feed. They are written
-// and read, and a reader carries a plan's bytes and the record that it has got to.
+// and read, and a reader goes over those of a plan.
 #![tactic(auto)]
 
 ghost use Rattle.std.specs.Prelude.{◌≡◌, ◌<◌, cond, Some, None, take};
@@ -49,7 +49,7 @@ fn number(tens: u8, ones: u8) -> Option<usize>
     Some(10 * usize::from(tens - b'0') + usize::from(ones - b'0'))
 }
 
-// What the first 8 bytes say: each is compared with what a record has there, and bytes that are not of the form, or fewer, are no record.
+// What the first 8 bytes say; none if they are not of the form of a record, or fewer.
 pub fn decode(bytes: &[u8]) -> Option<Record>
     ensures { result ≡ decoded (take record_bytes bytes.now) }
 {

@@ -1,10 +1,11 @@
-// The plan reader: an iterator that carries a plan's bytes and the record that it has got to.
+// The plan reader: an iterator over what the records of a plan say.
 ghost use Rattle.std.specs.Prelude.{◌≡◌};
 ghost use Rattle.std.specs.Iterator.{item_count};
 ghost use Rattle.record.specs.Reader.{records_left, Reads};
 
 use crate::{Record, decode};
 
+// A plan's bytes, and the record that the reader has got to, from 0 up.
 #[derive(Drop)]
 pub struct PlanReader<'a> {
     pub plan: &'a [u8],
@@ -12,7 +13,7 @@ pub struct PlanReader<'a> {
 }
 
 impl<'a> PlanReader<'a> {
-    // A reader of a plan that has got to the record k, from 0 up.
+    // A reader of a plan that has got to the record k.
     pub fn at(plan: &'a [u8], k: usize) -> PlanReader<'a>
         ensures { (result.plan ≡ plan.entry) × (result.«record» ≡ k) }
     {
@@ -20,7 +21,7 @@ impl<'a> PlanReader<'a> {
     }
 }
 
-// What the record that the reader has got to says, one record after the other, until no byte is left.
+// One record after the other, until no byte is left.
 impl<'a> Iterator for PlanReader<'a> {
     type Item = Option<Record>;
 
