@@ -4,97 +4,57 @@
 // a vertex is found by one step, and there are at most 2 n steps where there is no cycle.
 #![tactic(auto)]
 
-ghost use Rattle.std.specs.Prelude.{◌<◌, ◌^◌, ◌≡◌, length, set};
-ghost use Rattle.sheet_theory.specs.Layout.{most_vertices, Shape};
+ghost use Rattle.std.specs.Prelude.{◌<◌, ◌^◌};
 ghost use Rattle.sheet_theory.specs.Internal.{RowsBelow};
-ghost use Rattle.order.specs.Internal.{Stack, Ahead, Descended, taken_away, OrderFound};
+ghost use Rattle.order.specs.Internal.{Stack, Ahead, Descended, OrderFound};
 
-use sheet::Sheet;
+use crate::vertices::Vertices;
+use sheet::{Sheet, View};
 
-// The vertices left, as a mask, and how many have been taken away.
-#[derive(Drop)]
-struct Peeling {
-    left: u64,
-    count: usize,
-}
+mod vertices;
 
 // Where the search can go: along an edge from the last vertex of the stack to a vertex that is left; from an empty stack, to any that is
 // left.
-fn look_ahead(
-    n: usize,
-    sheet: &[u64],
-    left: u64,
-    stack: &[usize; Sheet::VERTICES],
-    depth: usize,
-) -> u64
-    requires { (Shape n sheet.now) × (left < 2 ^ n) × (Stack n sheet.now left stack.now depth) }
-    ensures { Ahead sheet.now left stack.now depth result }
+fn look_ahead(sheet: View, left: u64, stack: &Vertices) -> u64
+    requires { (left < 2 ^ sheet.n) × (Stack sheet.n sheet.words.now left stack.now) }
+    ensures { Ahead sheet.entry.words.now left stack.now result }
 {
-    if depth == 0 {
-        return left;
+    match stack.last() {
+        Some(v) => sheet.row(v) & left,
+        None => left,
     }
-    let v = stack[depth - 1];
-    sheet[v] & left
 }
 
-// Pushes vertices on the stack until no edge leads from the last one to a vertex that is left. The depth of the stack then; or 0, if it
-// would hold more than n vertices, so that one of them would stand in it twice.
-fn descend(
-    n: usize,
-    sheet: &[u64],
-    left: u64,
-    stack: &mut [usize; Sheet::VERTICES],
-    depth: usize,
-) -> usize
-    requires { (Shape n sheet.now) × (0 < left) × (left < 2 ^ n) × (Stack n sheet.now left stack.old depth) }
-    ensures { Descended n sheet.now left result stack.new }
+// Pushes vertices on the stack until no edge leads from the last one to a vertex that is left, and takes that one off the stack. None, if
+// the stack would hold more than n vertices, so that one of them would stand in it twice.
+fn descend(sheet: View, left: u64, stack: &mut Vertices) -> Option<usize>
+    requires { (0 < left) × (left < 2 ^ sheet.n) × (Stack sheet.n sheet.words.now left stack.old) }
+    ensures { Descended sheet.entry.n sheet.entry.words.now left result stack.new }
 {
-    let mut next = look_ahead(n, sheet, left, stack, depth);
-    let mut d = depth;
-    while next != 0 {
-        if d == n {
-            return 0;
+    let mut ahead = look_ahead(sheet, left, stack);
+    while ahead != 0 {
+        if stack.len() == sheet.n {
+            return None;
         }
-        let v = word::highest_bit(next);
-        stack[d] = v;
-        d += 1;
-        next = sheet[v] & left;
+        let v = word::highest_bit(ahead);
+        stack.push(v);
+        ahead = sheet.row(v) & left;
     }
-    d
+    Some(stack.pop())
 }
 
-// Vertex v is taken away and entered in the order.
-fn take_away(p: Peeling, v: usize, order: &mut [usize; Sheet::VERTICES]) -> Peeling
-    requires { (v < most_vertices) × (p.count < most_vertices) }
-    ensures state { result ≡ taken_away p v }
-    ensures order { order.new ≡ set order.old p.count v }
+// Internal: every vertex, each after those to which its edges lead. None, if there is a cycle.
+pub fn find_order(sheet: View) -> Option<[usize; Sheet::VERTICES]>
+    requires { RowsBelow sheet.n sheet.words.now }
+    ensures { OrderFound sheet.entry.n sheet.entry.words.now result }
 {
-    let at = p.count;
-    order[at] = v;
-    Peeling {
-        left: word::clear_bit(p.left, v),
-        count: at + 1,
+    let mut order = Vertices::none();
+    let mut stack = Vertices::none();
+    let mut left = word::low_bits(sheet.n);
+    while left != 0 {
+        let last = descend(sheet, left, &mut stack)?;
+        left = word::clear_bit(left, last);
+        order.push(last);
     }
-}
-
-// Internal: whether there is no cycle; then order holds every vertex, after those to which its edges lead.
-pub fn find_order(n: usize, sheet: &[u64], order: &mut [usize; Sheet::VERTICES]) -> bool
-    requires { (Shape n sheet.now) × (RowsBelow n sheet.now) × (length order.old ≡ most_vertices) }
-    ensures { OrderFound n sheet.now result order.new }
-{
-    let mut stack = [0usize; Sheet::VERTICES];
-    let mut depth = 0;
-    let mut p = Peeling {
-        left: word::low_bits(n),
-        count: 0,
-    };
-    while p.left != 0 {
-        depth = descend(n, sheet, p.left, &mut stack, depth);
-        if depth == 0 {
-            return false;
-        }
-        depth -= 1;
-        p = take_away(p, stack[depth], order);
-    }
-    true
+    Some(order.into_places())
 }

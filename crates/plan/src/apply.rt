@@ -7,19 +7,20 @@ ghost use Rattle.plan_theory.specs.Records.{number_on, left_by};
 ghost use Rattle.plan_theory.specs.Calls.{applied_plan};
 ghost use Rattle.plan.specs.Internal.{Reached, AppliedAll};
 
-use record::reader::Reading;
-use record::{Record, reader};
+use record::Record;
+use record::reader::PlanReader;
 use sheet::{Answer, Refusal, Sheet};
 
 // One record: the number by which it is refused, or 0.
-fn apply_record(n: usize, sheet: &mut [u64], record: Record) -> u64
+#[tactic(auto, unfolding(plan_theory::specs::Records::number_on))]
+fn apply_record(n: usize, sheet: &mut [u64], record: Option<Record>) -> u64
     ensures number { result ≡ number_on n (lent sheet.old) «record» }
     ensures words { lent sheet.new ≡ left_by n (lent sheet.old) «record» }
 {
     match record {
-        Record::Insert(from, to) => edit::insert_edge(n, sheet, from, to).number,
-        Record::Delete(from, to) => edit::delete_edge(n, sheet, from, to).number,
-        Record::Malformed => Numbers::RECORD,
+        Some(Record::Insert(from, to)) => edit::insert_edge(n, sheet, from, to).number,
+        Some(Record::Delete(from, to)) => edit::delete_edge(n, sheet, from, to).number,
+        None => Numbers::RECORD,
     }
 }
 
@@ -28,11 +29,7 @@ fn apply(n: usize, sheet: &mut [u64], plan: &[u8]) -> Answer
     requires { length plan.now % record_bytes ≡ 0 }
     ensures { Reached (applied_plan n (lent sheet.old) plan.now) result (lent sheet.new) }
 {
-    let mut k = 0;
-    loop {
-        let Reading::Read(record, next) = reader::read_record(plan, k) else {
-            return Answer::accepted(0);
-        };
+    for (k, record) in PlanReader::at(plan, 0).enumerate() {
         let number = apply_record(n, sheet, record);
         if number != 0 {
             return Answer {
@@ -41,8 +38,8 @@ fn apply(n: usize, sheet: &mut [u64], plan: &[u8]) -> Answer
                 value: 0,
             };
         }
-        k = next;
     }
+    Answer::accepted(0)
 }
 
 // Internal: the records of a plan of whole records on a sheet of the right shape, all of them or none: if one is refused, the words are

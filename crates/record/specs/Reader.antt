@@ -1,14 +1,27 @@
 -- The records of a plan, one after the other, as the plan reader gives them. Definitions only. Assumes nothing.
-use Rattle.std.specs.Prelude.{cond, List, ℕ, suc, ◌*◌, leb, length, take, drop}
+use Rattle.std.specs.Prelude.{◌≡◌, Option, MatchOption, List, map, ℕ, ◌+◌, ◌-◌, ◌*◌, length, take, drop}
+use Rattle.std.specs.Int.{div_ceil}
+use Rattle.std.specs.List.{range_with_len}
+use Rattle.std.specs.Iterator.{YieldsFirst}
 use Rattle.record.specs.declared.Record.{Record}
-use Rattle.record.specs.declared.reader.Reading.{Reading}
-use Rattle.record.specs.declared.reader.Reading.TheVariants.{Read, End}
+use Rattle.record.specs.declared.reader.PlanReader.{PlanReader}
 use Rattle.record.specs.Record.{record_bytes, decoded}
 
--- the record k of a plan, from 0 up: what the 8 bytes from 8 × k on say
-abbrev pub record_at : List ℕ → ℕ → Record
+-- what the record k of a plan says, from 0 up: the 8 bytes from 8 × k on; none if they are malformed, or cut off by the end of the plan
+abbrev pub record_at : List ℕ → ℕ → Option Record
 record_at plan k = decoded (take record_bytes (drop (record_bytes * k) plan))
 
--- what a reader that has got to the record k gives: that record and which is the next, if a byte is left
-unfoldable pub reading_at : List ℕ → ℕ → Reading
-reading_at plan k = cond (leb (length plan) (record_bytes * k)) End (Read (record_at plan k) (suc k))
+-- what the records of a plan say from the record k on, to the last that begins within the plan
+unfoldable pub records_from : List ℕ → ℕ → List (Option Record)
+records_from plan k = map (record_at plan) (range_with_len k (div_ceil (length plan) record_bytes - k))
+
+-- what a reader has left to give, from the record that it has got to on
+abbrev pub records_left : PlanReader → List (Option Record)
+records_left reader = records_from reader.plan.now reader.«record»
+
+-- a reader s gives r and is t then: r is the first of what s has left, or none if nothing is left, and t has got to the next record of the
+-- same plan, or has stayed
+abbrev pub Reads : PlanReader → Option (Option Record) → PlanReader → Type 0
+Reads s r t =
+    YieldsFirst records_left s r t × (t.plan ≡ s.plan)
+    × MatchOption r (t.«record» ≡ s.«record») (λ x. t.«record» ≡ s.«record» + 1)

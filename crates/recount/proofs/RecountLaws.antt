@@ -1,26 +1,21 @@
--- The ways out of `recount` and `recount_core`: r is what the call answers. Assumes nothing.
-use mathlib.Core.Path.{◌≡◌, refl, sym, ap, ◌∙◌, subst}
-use mathlib.Core.Logic.{inl, inr}
-use mathlib.Core.Bool.{Bool, true, false}
-use mathlib.Core.List.{List, []}
-use Prim.Native.Nat.{ℕ, ◌%◌, ◌^◌, ◌<◌}
-use native.Mathlib.Omega.{arith}
-use lib.ListN.{length, get_or}
+-- The ways out of `order_rows` and `recount_core`. Assumes nothing.
+use Rattle.std.proofs.Common.{◌≡◌, Option, Some, None, inl, inr, List, ℕ, ◌%◌, ◌^◌, ◌<◌, length, get_or, refl, sym, ap, ◌∙◌, subst}
+use Rattle.std.specs.Option.{ok_or}
 use Rattle.graph.specs.Graph.{PathsExactly, Cycle}
 use Rattle.graph.specs.Count.{path_count}
-use Rattle.answer.specs.Table.{Conditions, First, Reflects}
-use Rattle.sheet_theory.specs.Conditions.{StrayRow, altering}
+use Rattle.answer.specs.declared.Refusal.TheVariants.{Cycle as CycleFound}
+use Rattle.answer.specs.Table.{First}
+use Rattle.answer.specs.Answers.{answer, number_of}
+use Rattle.answer.proofs.TableLaws.{first_past}
+use Rattle.sheet_theory.specs.Conditions.{StrayRow}
 use Rattle.sheet_theory.specs.Layout.{Shape, row_at, count_at, edge_at, set_bits}
-use Rattle.sheet_theory.specs.Lent.{Lent, lent}
-use Rattle.answer.specs.declared.Answer.{Answer}
-use Rattle.answer.specs.Answers.{answer}
-use Rattle.answer.proofs.TableLaws.{reflects_false}
+use Rattle.sheet_theory.specs.Lent.{lent}
+use Rattle.sheet_theory.specs.Internal.{RowsBelow}
 use Rattle.sheet_theory.proofs.ValidLaws.{paths_exactly, paths_fit}
 use Rattle.sheet_theory.proofs.LayoutLaws.{redone_ext, length_redone, row_redone, count_redone, rest_redone}
-use Rattle.sheet_theory.proofs.ShapeLaws.{shape_of, shape_refused, shape_passed}
-use Rattle.answer.proofs.AnswerLaws.{decided_old}
 use Rattle.sheet_theory.proofs.SetBitsLaws.{set_bits_cong}
-use Rattle.recount_theory.specs.Calls.{row_conditions, recount_conditions, Recounted, RecountBy, Recount}
+use Rattle.sheet_theory.proofs.StrayLaws.{rows_iff}
+use Rattle.recount_theory.specs.Calls.{row_conditions, Recounted, RecountBy}
 use Rattle.vertex_counts.specs.Internal.{counted}
 use Rattle.order.specs.Internal.{OrderFound}
 use Rattle.order.proofs.OrderLaws.{ordered_acyclic}
@@ -40,57 +35,25 @@ recounted_of n s t shape acyclic e =
       counts = λ i j hi hj. subst (PathsExactly n (edge_at s) i j) (sym (count i j hi hj)) (paths_exactly n s shape.high acyclic i j hi);
     }
 
--- refused by m: nothing is written
-stopped : (cs : Conditions) (n : ℕ) (s : Lent) (m : ℕ) (r : Answer) → r ≡ answer m 0 0 → (m ≡ 0 → ⊥) → First cs m → RecountBy cs n s r s
-stopped cs n s m r er d f = rw er record {
-  number = f;
-  place = refl;
-  value = sym (decided_old m (set_bits n s.words) 0 d);
-  accepted = λ z. absurd (d z);
-  refused = λ z. refl;
-}
+module _ (n : ℕ) (s : List ℕ) where
+  pub rows_number : ¬ (StrayRow n s) → (found : Option (List ℕ)) → OrderFound n s found → First (row_conditions n (lent s)) (number_of (ok_or found CycleFound))
+  rows_number clean (Some l) o = inr (clean, inr (ordered_acyclic n s l o, refl))
+  rows_number clean None o = inr (clean, inl (o, refl))
 
--- ---- `recount`: k is what the check of the shape gave
+  pub clean_rows : First (row_conditions n (lent s)) 0 → RowsBelow n s
+  clean_rows f = (rows_iff n s).0 (first_past f).0
 
-module _ (n : ℕ) (s : Lent) (k : ℕ) (f : First (altering n s []) k) where
-  pub recount_refused : (r : Answer) → (k ≡ 0 → ⊥) → r ≡ answer k 0 0 → Recount n s r s
-  recount_refused r d er = stopped (recount_conditions n s) n s k r er d (shape_refused n s k f d (row_conditions n s))
+  module _ (shape : Shape n s) (t : List ℕ) (e : t ≡ counted n s) where
+    -- once the counts are filled the sheet has its shape still
+    pub recount_shape : Shape n t
+    recount_shape = record { low = shape.low; high = shape.high; long = ap length e ∙ length_redone n (row_at s) _ s ∙ shape.long }
 
-  pub recount_made : k ≡ 0 → (r : Answer) (t : Lent) → RecountBy (row_conditions n s) n s r t → Recount n s r t
-  recount_made z r t h = record {
-    number = shape_passed n s (shape_of n s k f z) (row_conditions n s) r.number h.number;
-    place = h.place;
-    value = h.value;
-    accepted = h.accepted;
-    refused = h.refused;
-  }
-
--- ---- `recount_core`
-
-module _ (n : ℕ) (s : List ℕ) (shape : Shape n s) where
-  abbrev rows : Conditions
-  rows = row_conditions n (lent s)
-
-  -- once the counts are filled the sheet has its shape still
-  pub recount_shape : (t : List ℕ) → t ≡ counted n s → Shape n t
-  recount_shape t e = record { low = shape.low; high = shape.high; long = ap length e ∙ length_redone n (row_at s) _ s ∙ shape.long }
-
-  module _ (stray : Bool) (es : Reflects stray (StrayRow n s)) where
-    pub recount_stray : (r : Answer) → r ≡ answer 4 0 0 → stray ≡ true → RecountBy rows n (lent s) r (lent s)
-    recount_stray r er e = stopped rows n (lent s) 4 r er (λ q. omega arith) (inl (es.holds e, refl))
-
-    module _ (clean : stray ≡ false) (found : Bool) (l : List ℕ) (o : OrderFound n s found l) where
-      pub recount_cycle : (r : Answer) → r ≡ answer 8 0 0 → found ≡ false → RecountBy rows n (lent s) r (lent s)
-      recount_cycle r er e = stopped rows n (lent s) 8 r er (λ q. omega arith) (inr ((reflects_false es).0 clean, inl (o.cycle e, refl)))
-
-      pub recount_accepted : (r : Answer) (v : ℕ) (t : List ℕ) → r ≡ answer 0 0 v → v ≡ set_bits n t → found ≡ true
-          → t ≡ counted n s → RecountBy rows n (lent s) r (lent t)
-      recount_accepted r v t er ev ef e =
-          let acyclic = ordered_acyclic n s l (o.ordered ef) in
-          rw er record {
-            number = inr ((reflects_false es).0 clean, inr (acyclic, refl));
-            place = refl;
-            value = ev ∙ set_bits_cong n t s (λ i hi. ap (λ (l : List ℕ). row_at l i) e ∙ row_redone n (row_at s) _ s shape.long i hi);
-            accepted = λ q. recounted_of n s t shape acyclic e;
-            refused = λ d. absurd (d refl);
-          }
+    pub recount_accepted : First (row_conditions n (lent s)) 0 → (v : ℕ) → v ≡ set_bits n t
+        → RecountBy (row_conditions n (lent s)) n (lent s) (answer 0 0 v) (lent t)
+    recount_accepted f v ev = record {
+      number = f;
+      place = refl;
+      value = ev ∙ set_bits_cong n t s (λ i hi. ap (λ (l : List ℕ). row_at l i) e ∙ row_redone n (row_at s) _ s shape.long i hi);
+      accepted = λ q. recounted_of n s t shape (first_past (first_past f).1).0 e;
+      refused = λ d. absurd (d refl);
+    }

@@ -1,28 +1,19 @@
--- The laws of text in a buffer: bytes copied one after the other, pieces one after the other, and what they leave of the buffer.
+-- The laws of text in a buffer: bytes put one after the other, pieces one after the other, and what they leave of the buffer.
 -- Assumes nothing.
 use mathlib.Core.Path.{◌≡◌, refl, sym, ap, ap₂, ◌∙◌}
 use mathlib.Core.List.{List, [], ◌++◌, append_assoc}
-use Prim.Native.Nat.{ℕ, suc, ◌+◌, ◌-◌, ◌≤◌, ◌<◌}
+use Prim.Native.Nat.{ℕ, ◌+◌, ◌-◌, ◌≤◌, ◌<◌}
 use native.Mathlib.Omega.{arith}
-use lib.ListN.{length, get_or, set, take, drop, length-append, length-drop, get_or-append}
-use lib.Seq.{take-append_seam, drop-append_seam, length-take-le, paste, paste-zero, paste-suc, length-paste, take-paste, drop-paste, take-length, get_or-drop, drop-drop}
+use lib.ListN.{length, get_or, take, drop, length-append, length-drop, get_or-append}
+use lib.Seq.{take-append_seam, drop-append_seam, length-take-le, paste, paste-zero, length-paste, take-paste, drop-paste, take-length, get_or-drop, drop-drop}
 use Rattle.sums.specs.Gather.{gather}
 use Rattle.sums.proofs.GatherLaws.{gather_none, gather_more, gather_room}
 use Rattle.text.specs.Text.{pasted, Put, written}
 
--- ---- `put`: k bytes of b are copied to l
+-- ---- the bytes b in a buffer from the place at on, as `paste` of them all
 
 pasted_paste : (buffer : List ℕ) (at : ℕ) (b : List ℕ) → pasted buffer at b ≡ paste buffer at b (length b)
 pasted_paste buffer at b = ap (λ (x : List ℕ). take at buffer ++ (x ++ drop (at + length b) buffer)) (sym (take-length b)) ∙ sym (append_assoc (take at buffer) _ _)
-
-module _ (buffer : List ℕ) (at : ℕ) (b l : List ℕ) (k : ℕ) (e : l ≡ paste buffer at b k) where
-  pub paste_more : k < length b → at + k < length buffer → set l (at + k) (get_or b k 0) ≡ paste buffer at b (k + 1)
-  paste_more h w =
-      let one : suc k ≡ k + 1 = omega arith in
-      ap (λ (x : List ℕ). set x (at + k) (get_or b k 0)) e ∙ (paste-suc buffer at b k 0 w h ∙ ap (paste buffer at b) one)
-
-  pub paste_done : k ≡ length b → Put buffer at b l (at + k)
-  paste_done d = record { place = ap (λ (x : ℕ). at + x) d; bytes = e ∙ (ap (paste buffer at b) d ∙ sym (pasted_paste buffer at b)) }
 
 -- ---- bytes put one after the other
 

@@ -9,12 +9,9 @@ pub fn put(buffer: &mut [u8], at: usize, bytes: &[u8]) -> usize
     requires { at + length bytes.now ≤ length buffer.old }
     ensures { Put buffer.old at bytes.now buffer.new result }
 {
-    let mut k = 0;
-    while k < bytes.len() {
-        buffer[at + k] = bytes[k];
-        k += 1;
-    }
-    at + k
+    let end = at + bytes.len();
+    buffer[at..end].copy_from_slice(bytes);
+    end
 }
 
 // Internal: the first of the two digits of a number below 100.
