@@ -1,5 +1,5 @@
 -- An edit: the counts and then the rows make the edited sheet; and the ways out of `edit_at` and of the four calls. Assumes nothing.
-use Rattle.std.proofs.Common.{◌≡◌, Bool, true, false, ℕ, List, [], Result, Ok, Err, length, sym, ap, ◌∙◌, arith}
+use Rattle.std.proofs.Common.{◌≡◌, Bool, true, false, ℕ, List, [], length, sym, ap, ◌∙◌}
 use Rattle.answer.specs.declared.Answer.{Answer}
 use Rattle.answer.specs.declared.Refusal.{Refusal}
 use Rattle.answer.specs.Table.{First}
@@ -12,15 +12,14 @@ use Rattle.sheet_theory.specs.Lent.{Lent, lent, Lends}
 use Rattle.sheet_theory.specs.Conditions.{altering}
 use Rattle.sheet_theory.proofs.ShapeLaws.{shape_refused, accepted_shape, shape_passed}
 use Rattle.sheet_theory.proofs.LayoutLaws.{length_redone, row_redone, count_redone, rest_redone, redone_ext}
-use Rattle.edit_counts.specs.declared.edges.EdgesAt.{EdgesAt}
 use Rattle.edit_counts.specs.Internal.{Names, counts_edited}
-use Rattle.edit_theory.specs.Edit.{Edges, one, at, Edit, edges_edit, vertex_of, predecessors_of, successors_of}
+use Rattle.edit_theory.specs.Edit.{Edges, Edit, edges_edit, vertex_of, predecessors_of, successors_of}
 use Rattle.edit_theory.specs.Book.{opened}
 use Rattle.edit_theory.specs.Table.{argued, most_parallel, effects, asked}
 use Rattle.edit_theory.specs.Outcome.{edited_row, edited, edit_grounds, edit_conditions, edit_number, edit_words, edit_made, edit_answer, edit_after}
 use Rattle.edit_theory.proofs.ConditionLaws.{argued_refused, argued_iff}
 use Rattle.edit_theory.proofs.Refusals.{edit_first}
-use Rattle.edit.specs.Internal.{AskedNumber, EditNumber, Written, Made, MadeAt, Edited, rows_edited}
+use Rattle.edit.specs.Internal.{EditNumber, Written, Made, rows_edited}
 
 -- ---- the counts and then the rows
 

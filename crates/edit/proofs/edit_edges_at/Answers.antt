@@ -1,6 +1,5 @@
 -- `edit::edit_edges_at` meets its contract: each way out is a law of EditLaws. Assumes nothing.
-use Rattle.std.proofs.Common.{◌≡◌, Err, ap, ◌∙◌, rules}
-use Rattle.answer.specs.Answers.{answer_of}
+use Rattle.std.proofs.Common.{rules}
 use Rattle.answer.proofs.OutcomeLaws.{refused_with, refused_leaves}
 use Rattle.sheet_theory.specs.Lent.{lent}
 use Rattle.edit_theory.specs.Edit.{edges_edit}

@@ -13,7 +13,7 @@ returns-then-meets c = cycle_into _ c.args.sheet.words.now _ _ _ _ c.meets.ensur
 pub some_meets-requires : goal.some_meets-requires
 some_meets-requires c =
     let e = c.args.edges in
-    rw (c.requires, c.set_bit.ensures) (e.successors_fit, set_below _ _ _ e.vertex e.predecessors_fit)
+    rw (c.requires, c.set_bit-ends.ensures) (e.successors_fit, set_below _ _ _ e.vertex e.predecessors_fit)
 
 pub returns : goal.returns
-returns c = cycle_out _ c.args.sheet.words.now _ _ _ _ c.meets.ensures _ _ (omega arith) c.if-meets.false c.set_bit.ensures c.some_meets.ensures
+returns c = cycle_out _ c.args.sheet.words.now _ _ _ _ c.meets.ensures _ _ (omega arith) c.if-meets.false c.set_bit-ends.ensures c.some_meets.ensures

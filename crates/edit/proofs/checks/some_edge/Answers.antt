@@ -1,5 +1,5 @@
 -- `edit::checks::some_edge` meets its contract: each way out is a law of CheckLaws. Assumes nothing.
-use Rattle.std.proofs.Common.{◌≡◌, ◌<◌, ◌^◌, sym, arith}
+use Rattle.std.proofs.Common.{arith}
 use Rattle.edit.proofs.CheckLaws.{edge_into, edge_out}
 use Rattle.edit.proofs.checks.some_edge.Goals as goal
 
