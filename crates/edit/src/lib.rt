@@ -46,8 +46,8 @@ fn edit_at(edges: EdgesAt, sheet: &mut [u64]) -> Result<u64, Refusal>
     Ok(write_edit(edges, sheet))
 }
 
-// One edge, inserted or deleted.
-fn edit_edge(
+// Internal: one edge, inserted or deleted.
+pub fn edit_edge(
     inserts: bool,
     n: usize,
     sheet: &mut [u64],

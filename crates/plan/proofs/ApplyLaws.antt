@@ -9,8 +9,10 @@ use Rattle.std.proofs.Common.{Option, Some, None, Result, Ok, Err}
 use Rattle.record.specs.declared.Record.{Record}
 use Rattle.record.specs.declared.Record.TheVariants.{Insert, Delete}
 use Rattle.record.specs.Reader.{records_from}
+use Rattle.answer.specs.declared.Answer.{Answer}
+use Rattle.answer.specs.declared.Refusal.{Refusal}
 use Rattle.answer.specs.declared.RefusedAt.{RefusedAt}
-use Rattle.answer.specs.Answers.{answer, decided, number_of_refusal, number_at, place_at}
+use Rattle.answer.specs.Answers.{answer, decided, number_of_refusal, number_of, answer_of, number_at, place_at, refused_at}
 use Rattle.answer.proofs.OutcomeLaws.{refusal_some}
 use Rattle.sheet_theory.specs.Layout.{most_vertices, size, Shape, set_bits}
 use Rattle.sheet_theory.specs.Lent.{Lent, lent}
@@ -27,6 +29,10 @@ use Rattle.plan_theory.proofs.RecordsLaws.{records_length, records_given}
 use Rattle.plan_theory.proofs.AppliedLaws.{applied_place, applied_next, applied_here}
 
 -- ---- one record
+
+pub number_answered : (o : Result ℕ Refusal) (r : Answer) → answer_of o ≡ r → number_of o ≡ r.number
+number_answered (Ok v) r e = ap (λ (x : Answer). x.number) e
+number_answered (Err f) r e = ap (λ (x : Answer). x.number) e
 
 -- a record that is refused leaves every word
 left_refused : (n : ℕ) (s : Lent) (x : Option Record) → ¬ (number_on n s x ≡ 0) → left_by n s x ≡ s
@@ -59,24 +65,27 @@ module _ (n : ℕ) (s : Lent) (plan : List ℕ) where
           left = ap (λ (p : Applied). p.left) (sym f);
         }
 
-    -- x is the next record, and l is what those after it say; j is the number by which it is refused, or 0, and u what it left
-    module _ (x : Option Record) (l : List (Option Record)) (more : rest ≡ x ∷ l) (j : ℕ) (u : Lent) (ej : j ≡ number_on n t x) (eu : u ≡ left_by n t x) where
+    -- x is the next record, l is what those after it say, and u what it left
+    module _ (x : Option Record) (l : List (Option Record)) (more : rest ≡ x ∷ l) (u : Lent) (eu : u ≡ left_by n t x) where
       opens : applied_plan n s plan ≡ applied n (x ∷ l) t (suc k)
       opens = was.goes_on ∙ ap (λ (m : List (Option Record)). applied n m t (suc k)) more
 
-      pub applying_refused : (j ≡ 0 → ⊥) → {A : Type 0} (o : Result A RefusedAt) → number_at o ≡ j → place_at o ≡ k + 1 → Reached (applied_plan n s plan) o u
-      applying_refused d o eo ep =
-          let f = opens ∙ applied_here n x l t (suc k) (λ z. d (ej ∙ z)) in
+      pub applying_refused : {A : Type 0} (e : Refusal) → number_of_refusal e ≡ number_on n t x → (i : ℕ) → i ≡ k
+          → Reached {A = A} (applied_plan n s plan) (Err (refused_at e (i + 1))) u
+      applying_refused e ee i ei =
+          let d : ¬ (number_on n t x ≡ 0) = λ z. refusal_some e (ee ∙ z) in
+          let f = opens ∙ applied_here n x l t (suc k) d in
+          let one : i + 1 ≡ suc k = omega arith in
           record {
-            number = eo ∙ ej ∙ ap (λ (p : Applied). p.number) (sym f);
-            place = ep ∙ omega arith ∙ ap (λ (p : Applied). p.place) (sym f);
-            left = eu ∙ left_refused n t x (λ z. d (ej ∙ z)) ∙ ap (λ (p : Applied). p.left) (sym f);
+            number = ee ∙ ap (λ (p : Applied). p.number) (sym f);
+            place = one ∙ ap (λ (p : Applied). p.place) (sym f);
+            left = eu ∙ left_refused n t x d ∙ ap (λ (p : Applied). p.left) (sym f);
           }
 
-      pub applying_more : j ≡ 0 → (i : ℕ) → i ≡ k + 1 → Applying n s plan l i u
+      pub applying_more : 0 ≡ number_on n t x → (i : ℕ) → i ≡ k + 1 → Applying n s plan l i u
       applying_more z i ei =
           let one : i ≡ suc k = omega arith in
-          rw (one, eu) record { within = omega (arith, was.within, ap length more); goes_on = opens ∙ applied_next n x l t (suc k) (sym ej ∙ z) }
+          rw (one, eu) record { within = omega (arith, was.within, ap length more); goes_on = opens ∙ applied_next n x l t (suc k) (sym z) }
 
 -- a sheet has at most the words of the greatest
 pub sheet_long : (n : ℕ) (s : List ℕ) → Shape n s → length s ≤ size most_vertices

@@ -1,31 +1,25 @@
--- The ways out of the calls and of their checks. Assumes nothing.
-use Rattle.std.proofs.Common.{◌≡◌, Result, Ok, Err, inl, inr, List, [], ◌∷◌, ℕ, ◌*◌, ◌%◌, ◌≤◌, ◌<◌, length, refl, sym, ap, ◌∙◌, arith}
-use native.Mathlib.Decide.{ℕ_discrete}
+-- The ways out of the calls. Assumes nothing.
+use Rattle.std.proofs.Common.{◌≡◌, Result, Err, inr, List, [], ◌∷◌, ℕ, ◌*◌, ◌≤◌, length, refl, sym, ap, ◌∙◌, arith}
 use Rattle.text.specs.Text.{written}
-use Rattle.answer.specs.declared.Answer.{Answer}
 use Rattle.answer.specs.declared.Refusal.{Refusal}
 use Rattle.answer.specs.declared.RefusedAt.{RefusedAt}
 use Rattle.answer.specs.Table.{◌gives◌, Conditions, First}
-use Rattle.answer.specs.Answers.{answer, answer_of, answer_at, number_of_refusal, refused_at}
+use Rattle.answer.specs.Answers.{answer, answer_at, number_of_refusal, refused_at}
 use Rattle.sheet_theory.specs.Layout.{set_bits}
 use Rattle.sheet_theory.specs.Lent.{Lent, Lends}
-use Rattle.sheet_theory.specs.Valid.{Valid, not_valid, valid_conditions}
-use Rattle.answer.proofs.ByNumber.{first_not}
+use Rattle.sheet_theory.specs.Valid.{Valid, not_valid}
 use Rattle.answer.proofs.AnswerLaws.{decided_old}
-use Rattle.answer.proofs.OutcomeLaws.{refusal_some, refused_more}
+use Rattle.answer.proofs.OutcomeLaws.{refusal_some}
 use Rattle.sheet_theory.proofs.Meaning.{valid_edges_le}
 use Rattle.sheet_theory.proofs.ShapeLaws.{shape_passed}
 use Rattle.sheet_theory.proofs.ValidLaws.{accepted_valid, valid_passed}
 use Rattle.plan_theory.specs.PlanOf.{plan_of}
-use Rattle.plan_theory.specs.Calls.{BadPlan, read_conditions, ReadPlan, ShortBuffer, write_conditions, WritePlan}
+use Rattle.plan_theory.specs.Calls.{read_conditions, ReadPlan, ShortBuffer, WritePlan}
 use Rattle.plan_theory.proofs.PlanOfLaws.{plan_length}
 
 -- ---- the check of a sheet of the right shape that has to be valid
 
 module _ (n : ℕ) (s : Lent) (shape : Lends n s) where
-  pub check_refused : (cs : Conditions) (e : Refusal) → First (not_valid n s []) (number_of_refusal e) → First (valid_conditions n s cs) (number_of_refusal e)
-  check_refused cs e f = shape_passed n s shape (not_valid n s cs) _ (refused_more (not_valid n s []) cs e f)
-
   pub check_passed : First (not_valid n s []) 0 → Valid n s
   check_passed f = accepted_valid n s [] (shape_passed n s shape (not_valid n s []) 0 f)
 
@@ -40,46 +34,27 @@ module _ (n : ℕ) (s : Lent) (plan : List ℕ) where
     leaves = sym (decided_old (number_of_refusal e) _ s (refusal_some e));
   }
 
-  -- what `apply_core` asks
-  pub read_ready : First (read_conditions n s plan) 0 → Lends n s × (length plan % 8 ≡ 0)
-  read_ready f = ((accepted_valid n s (BadPlan plan gives 13 ∷ []) f).shape, whole (first_not (read_conditions n s plan) 0 f 13 refl))
-    where
-      whole : ¬ (BadPlan plan) → length plan % 8 ≡ 0
-      whole d = elim (ℕ_discrete (length plan % 8) 0) [ yes e ↦ e | no c ↦ absurd (d (inl c)) ]
-
 -- ---- write_plan: b is the number of set bits
 
-module _ (n : ℕ) (s : Lent) (p : List ℕ) where
-  pub write_stops : (o : Result ℕ Refusal) (e : Refusal) → o ≡ Err e → First (write_conditions n s (length p)) (number_of_refusal e) → WritePlan n s p (answer_of o) p
-  write_stops o e eo f = rw eo record {
-    number = f;
-    place = refl;
-    value = sym (decided_old (number_of_refusal e) _ 0 (refusal_some e));
-    bytes = sym (decided_old (number_of_refusal e) _ p (refusal_some e));
-  }
+module _ (n : ℕ) (s : Lent) (p : List ℕ) (v : Valid n s) (b : ℕ) (eb : b ≡ set_bits n s.words) where
+  abbrev buffer : Conditions
+  buffer = ShortBuffer n s (length p) gives 10 ∷ []
 
-  module _ (v : Valid n s) (b : ℕ) (eb : b ≡ set_bits n s.words) where
-    abbrev buffer : Conditions
-    buffer = ShortBuffer n s (length p) gives 10 ∷ []
+  pub write_few : b ≤ 2016
+  write_few = omega (arith, eb, valid_edges_le n s v)
 
-    pub write_few : b ≤ 2016
-    write_few = omega (arith, eb, valid_edges_le n s v)
+  module _ (l : 8 * b ≤ length p) where
+    bytes : length (plan_of n s) ≡ 8 * b
+    bytes = plan_length n s v ∙ ap (λ (x : ℕ). 8 * x) (sym eb)
 
-    pub write_short : length p < 8 * b → First (write_conditions n s (length p)) 10
-    write_short l = valid_passed n s v buffer 10 (inl (rw (← eb) l, refl))
+    -- what `write_rows` asks
+    pub write_fits : length (plan_of n s) ≤ length p
+    write_fits = omega (arith, bytes)
 
-    module _ (l : 8 * b ≤ length p) where
-      bytes : length (plan_of n s) ≡ 8 * b
-      bytes = plan_length n s v ∙ ap (λ (x : ℕ). 8 * x) (sym eb)
-
-      -- what `write_rows` asks
-      pub write_fits : length (plan_of n s) ≤ length p
-      write_fits = omega (arith, bytes)
-
-      pub write_whole : (q : List ℕ) → q ≡ written (plan_of n s) p → WritePlan n s p (answer 0 0 (8 * b)) q
-      write_whole q eq = record {
-        number = valid_passed n s v buffer 0 (inr (λ c. omega (arith, c, eb), refl));
-        place = refl;
-        value = sym bytes;
-        bytes = eq;
-      }
+    pub write_whole : (q : List ℕ) → q ≡ written (plan_of n s) p → WritePlan n s p (answer 0 0 (8 * b)) q
+    write_whole q eq = record {
+      number = valid_passed n s v buffer 0 (inr (λ c. omega (arith, c, eb), refl));
+      place = refl;
+      value = sym bytes;
+      bytes = eq;
+    }

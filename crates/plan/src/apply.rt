@@ -1,9 +1,6 @@
 // The records of a plan, applied one after the other.
 ghost use Rattle.std.specs.Prelude.{◌≡◌, ◌%◌, length};
 ghost use Rattle.answer.specs.Answers.{number_of, answer_at};
-ghost use Rattle.answer.specs.Answers.{answer_of};
-ghost use Rattle.edit_theory.specs.Edit.{edge_edit};
-ghost use Rattle.edit_theory.specs.Outcome.{edit_answer, edit_after};
 ghost use Rattle.record.specs.Record.{record_bytes};
 ghost use Rattle.sheet_theory.specs.Layout.{Shape};
 ghost use Rattle.sheet_theory.specs.Lent.{lent};
@@ -16,23 +13,15 @@ use record::Record;
 use record::reader::PlanReader;
 use sheet::{Refusal, Sheet, View};
 
-// STUB
-fn edit_edge(inserts: bool, n: usize, sheet: &mut [u64], from: usize, to: usize) -> Result<u64, Refusal>
-    ensures answer { answer_of result ≡ edit_answer (edge_edit inserts n from to) (lent sheet.old) }
-    ensures words { lent sheet.new ≡ edit_after (edge_edit inserts n from to) (lent sheet.old) }
-{
-    if inserts { sheet.fill(0); }
-    Err(Refusal::Vertices)
-}
-
 // One record, applied, or why it is refused.
+#[tactic(auto, using(crate::proofs::ApplyLaws::number_answered), unfolding(plan_theory::specs::Records::number_on))]
 fn apply_record(n: usize, sheet: &mut [u64], record: Option<Record>) -> Result<u64, Refusal>
     ensures number { number_of result ≡ number_on n (lent sheet.old) «record» }
     ensures words { lent sheet.new ≡ left_by n (lent sheet.old) «record» }
 {
     match record {
-        Some(Record::Insert(from, to)) => edit_edge(true, n, sheet, from, to),
-        Some(Record::Delete(from, to)) => edit_edge(false, n, sheet, from, to),
+        Some(Record::Insert(from, to)) => edit::edit_edge(true, n, sheet, from, to),
+        Some(Record::Delete(from, to)) => edit::edit_edge(false, n, sheet, from, to),
         None => Err(Refusal::Record),
     }
 }
