@@ -2,6 +2,7 @@
 use Rattle.std.specs.Prelude.{ℕ, zero, suc, Result, Ok, Err}
 use Rattle.answer.specs.declared.Answer.{Answer}
 use Rattle.answer.specs.declared.Refusal.{Refusal}
+use Rattle.answer.specs.declared.RefusedAt.{RefusedAt}
 use Rattle.answer.specs.declared.Refusal.TheVariants.{Vertices, Length, Vertex, StrayBit, SelfLoop, Present, Absent, Cycle, NotValid, Buffer, NoSuchPath, NoPath, PlanLength, Record}
 
 abbrev pub answer : ℕ → ℕ → ℕ → Answer
@@ -42,3 +43,21 @@ number_of (Err e) = number_of_refusal e
 abbrev pub answer_of : Result ℕ Refusal → Answer
 answer_of (Ok v) = answer 0 0 v
 answer_of (Err e) = answer (number_of_refusal e) 0 0
+
+-- a refusal of the record at a place, or at the place 0 one that names no record
+abbrev pub refused_at : Refusal → ℕ → RefusedAt
+refused_at e p = record { refusal = e; place = p }
+
+-- the number and the place of an outcome that may name a record: 0 where nothing was refused
+abbrev pub number_at : {A : Type 0} → Result A RefusedAt → ℕ
+number_at (Ok a) = 0
+number_at (Err e) = number_of_refusal e.refusal
+
+abbrev pub place_at : {A : Type 0} → Result A RefusedAt → ℕ
+place_at (Ok a) = 0
+place_at (Err e) = e.place
+
+-- the answer of a call that has this outcome
+abbrev pub answer_at : Result ℕ RefusedAt → Answer
+answer_at (Ok v) = answer 0 0 v
+answer_at (Err e) = answer (number_of_refusal e.refusal) e.place 0

@@ -3,7 +3,7 @@
 
 ghost use Rattle.std.specs.Prelude.{◌≡◌, ℕ, Result};
 ghost use Rattle.answer.specs.declared.Refusal.{Refusal};
-ghost use Rattle.answer.specs.Answers.{number_of_refusal, answer_of};
+ghost use Rattle.answer.specs.Answers.{number_of_refusal, answer_of, refused_at, answer_at};
 
 // Why a call refuses: the rows of document 01's table, by their numbers.
 #[derive(Clone, Copy, Debug, PartialEq, Eq)]
@@ -58,23 +58,48 @@ pub struct Answer {
     pub value: u64,
 }
 
-// Internal: a call that names no record is accepted with a value, or refused.
-impl From<Result<u64, Refusal>> for Answer {
-    ghost from_gives = { λ outcome made. made ≡ answer_of outcome };
+// Why a call refuses, and the place of the record of a plan that it refuses, from 1 up; 0 where it names no record.
+#[derive(Clone, Copy, Debug, PartialEq, Eq)]
+pub struct RefusedAt {
+    pub refusal: Refusal,
+    pub place: u64,
+}
 
-    fn from(outcome: Result<u64, Refusal>) -> Answer {
+// Internal: a refusal that names no record.
+impl From<Refusal> for RefusedAt {
+    ghost from_gives = { λ refusal made. made ≡ refused_at refusal 0 };
+
+    fn from(refusal: Refusal) -> RefusedAt {
+        RefusedAt { refusal, place: 0 }
+    }
+}
+
+// Internal: a call that reads records is accepted with a value, or refused.
+impl From<Result<u64, RefusedAt>> for Answer {
+    ghost from_gives = { λ outcome made. made ≡ answer_at outcome };
+
+    fn from(outcome: Result<u64, RefusedAt>) -> Answer {
         match outcome {
             Ok(value) => Answer {
                 number: 0,
                 place: 0,
                 value,
             },
-            Err(refusal) => Answer {
-                number: refusal.number(),
-                place: 0,
+            Err(refused) => Answer {
+                number: refused.refusal.number(),
+                place: refused.place,
                 value: 0,
             },
         }
+    }
+}
+
+// Internal: a call that names no record is accepted with a value, or refused.
+impl From<Result<u64, Refusal>> for Answer {
+    ghost from_gives = { λ outcome made. made ≡ answer_of outcome };
+
+    fn from(outcome: Result<u64, Refusal>) -> Answer {
+        outcome.map_err(RefusedAt::from).into()
     }
 }
 

@@ -1,32 +1,32 @@
 -- The laws of counts by blocks of columns: the block that the recurrence gives, what may be left out of its sums, and blocks written and
 -- compared. Assumes nothing.
-use Rattle.std.proofs.Common.{◌≡◌, ℕ, ◌+◌, ◌-◌, ◌*◌, ◌%◌, ◌^◌, ◌<◌, ◌≤◌, Bool, true, false, not, ◌⊎◌, List, length, get_or, set, replicate, sym, refl, ap, ◌∙◌, subst, ap₂, inl, inr, lt_of_le_of_lt, mod-lt, mod-eq_of_lt, mul-zero, zero-mul, arith, length-set, get_or-set_other, get_or-set_same, pow_pos}
+use Rattle.std.proofs.Common.{◌≡◌, ℕ, ◌+◌, ◌-◌, ◌*◌, ◌%◌, ◌^◌, ◌<◌, ◌≤◌, Bool, ◌⊎◌, List, length, get_or, set, replicate, sym, refl, ap, ◌∙◌, subst, inl, inr, mod-eq_of_lt, mul-zero, zero-mul, arith, length-set, get_or-set_other, get_or-set_same, pow_pos}
 use native.Mathlib.Nat.{pow-le-pow_right}
-use native.Mathlib.Decide.{ℕ_discrete, dec_lt}
-use borrow.Author.Tests.{not-true}
-use lib.Bits.{bit_and, and_le_l}
+use native.Mathlib.Decide.{ℕ_discrete}
+use lib.Bits.{bit_and}
 use lib.ListN.{length-replicate, get_or-replicate}
 use Rattle.sums.specs.Sum.{sum, delta}
 use Rattle.sums.specs.Modulo.{Congruent}
 use Rattle.sums.proofs.ModuloLaws.{congruent_add, congruent_cancel}
 use Rattle.sums.proofs.SumLaws.{delta_refl, delta_diff, sum_cong}
 use Rattle.word.specs.Bit.{bit, with_bit}
-use Rattle.word.specs.Wrap.{plus, minus}
+use Rattle.word.specs.Wrap.{minus}
 use Rattle.word.proofs.BitLaws.{bit_cases, bit_set_same, bit_set_other, bit_above_zero}
 use Rattle.word.proofs.MaskLaws.{bit_of_and, bit_not, bit_low}
-use Rattle.word.proofs.WrapLaws.{minus_lt, minus_add, minus_congruent, Wraps}
+use Rattle.word.proofs.WrapLaws.{minus_lt, minus_add, minus_congruent}
+use Rattle.word.specs.Combine.{Wraps}
 use Rattle.word.proofs.CountLaws.{sum_no_bits}
 use Rattle.answer.specs.Table.{Reflects}
 use Rattle.sheet_theory.specs.Layout.{Shape, row_at, count_at, edge_at}
 use Rattle.sheet.specs.Fill.{over}
-use Rattle.sheet.specs.Internal.{CountsFrom, words_by, SumsBy, with_counts}
-use Rattle.sheet_theory.specs.Internal.{successors_sum, CountsHold}
-use Rattle.answer.proofs.TableLaws.{reflects_false, reflects_true, reflects_none, reflects_iff}
-use Rattle.sheet.proofs.WordsLaws.{words_long, words_at, block_count, counts_written, counts_as, counts_in, counts_stay, summed_zeros}
+use Rattle.sheet.specs.Internal.{CountsFrom, combined, SumsBy, with_counts}
+use Rattle.sheet_theory.specs.Internal.{successors_sum}
+use Rattle.answer.proofs.TableLaws.{reflects_iff}
+use Rattle.sheet.proofs.WordsLaws.{combined_long, combined_at, counts_written, counts_as, counts_in, counts_stay}
 use Rattle.sheet_theory.proofs.LayoutLaws.{from_within}
 use Rattle.vertex_counts.specs.Internal.{SameWords}
 use Rattle.order.specs.Internal.{vertex_at, Ordered}
-use Rattle.count_blocks.specs.Internal.{UnitWords, PlaceOf, OwnBy, count_by_mask, BlockCounted, PartHolds, BlockHolds, HasColumns, Led, BlockAt}
+use Rattle.count_blocks.specs.Internal.{UnitWords, OwnBy, count_by_mask, BlockCounted, PartHolds, BlockHolds, HasColumns, Led}
 use Rattle.vertex_counts.proofs.FilledLaws.{Filled, filled_more, same_ordered}
 
 -- ---- the path from a vertex to itself
@@ -41,17 +41,21 @@ unit_made = record {
       ];
 }
 
-module _ (op : ℕ → ℕ → ℕ) (i c : ℕ) (t : List ℕ) (long : length t ≡ 16) where
+module _ (op : ℕ → ℕ → ℕ) (i c : ℕ) (t : List ℕ) (long : length t ≡ 16) (fits : (j : ℕ) → get_or t j 0 < 2 ^ 64) where
   pub own_out : Wraps op → (i < c) ⊎ (c + 16 ≤ i) → OwnBy op i c t t
   own_out wraps out = record {
     long = long;
-    each = λ j h small. rw (delta_diff i (c + j) (λ e. elim out [ inl q ↦ omega arith | inr q ↦ omega arith ])) (wraps.none (get_or t j 0) small);
+    fits = fits;
+    each = λ j h. rw (delta_diff i (c + j) (λ e. elim out [ inl q ↦ omega arith | inr q ↦ omega arith ])) (wraps.none (get_or t j 0) (fits j));
   }
 
-  pub own_in : (u r : List ℕ) (p : ℕ) → UnitWords u → i ≡ c + p → p < 16 → r ≡ words_by op 16 u (16 - p) t → OwnBy op i c t r
-  own_in u r p unit e high a = record {
-    long = words_long op 16 u (16 - p) t r a ∙ long;
-    each = λ j h small. words_at op 16 u (16 - p) t r a j h (omega arith) ∙ ap (op (get_or t j 0)) (unit.one (16 - p + j) (omega arith) ∙ place j);
+  -- l is the window of u that has the 1 of its middle at the place p of i
+  pub own_in : (u l r : List ℕ) (p : ℕ) → UnitWords u → i ≡ c + p → p < 16 → length l ≡ 16 → ((j : ℕ) → j < 16 → get_or l j 0 ≡ get_or u (16 - p + j) 0)
+      → r ≡ combined op (length l) l t → OwnBy op i c t r
+  own_in u l r p unit e high el window a = record {
+    long = combined_long op _ l t r a ∙ long;
+    fits = fits;
+    each = λ j h. combined_at op _ l t r a j (omega (arith, el)) (omega arith) ∙ ap (op (get_or t j 0)) (window j h ∙ unit.one (16 - p + j) (omega arith) ∙ place j);
   }
     where
       place : (j : ℕ) → delta (16 - p + j) 16 ≡ delta i (c + j)
@@ -61,24 +65,9 @@ module _ (op : ℕ → ℕ → ℕ) (i c : ℕ) (t : List ℕ) (long : length t 
             | no d ↦ delta_diff (16 - p + j) 16 (λ q. d (omega arith)) ∙ sym (delta_diff i (c + j) d)
           ]
 
--- the difference modulo 2 ^ 64 is the place, or beyond every place
-pub place_found : (i c r : ℕ) → i < 64 → c < 64 → r < 2 ^ 64 → (r + c) % 2 ^ 64 ≡ i → PlaceOf i c r
-place_found i c r hi hc hr e = record {
-  inside = λ h. omega arith;
-  outside = λ h. elim (dec_lt i c) [ yes q ↦ inl q | no q ↦ inr (omega arith) ];
-}
-
 -- ---- the block that the recurrence gives, and its columns
 
 module _ (n : ℕ) (s : List ℕ) (i c mask : ℕ) where
-  pub block_counted : (t u : List ℕ) → SumsBy plus n s c 16 mask (replicate 16 0) t n → OwnBy plus i c t u → BlockCounted n s i c mask u
-  block_counted t u added own = record {
-    long = own.long;
-    counts = λ j h.
-        let summed = summed_zeros n s c 16 mask 16 t (omega arith) added j h in
-        omega (arith, own.each j h (rw summed (mod-lt _ (pow_pos 64))));
-  }
-
   -- what holds of each column by its place in the block holds of each column
   by_place : (P : ℕ → Type 0) → ((j : ℕ) → j < 16 → P (c + j)) → (j : ℕ) → c ≤ j → j < c + 16 → P j
   by_place P h j low high = let e : c + (j - c) ≡ j = omega arith in subst P e (h (j - c) (omega arith))
@@ -88,42 +77,36 @@ module _ (n : ℕ) (s : List ℕ) (i c mask : ℕ) where
   part_filled t u base at counted e = counts_written n s i c 16 _ u (base + c) _ e (ap (λ (b : ℕ). b + c) at.is) counted.counts
 
   -- nothing is left of a count exactly if it is what is taken off
-  left_none : (a d S : ℕ) → a < 2 ^ 64 → minus (minus (plus 0 a) d) S ≡ 0 → a ≡ (d + S) % 2 ^ 64
+  left_none : (a d S : ℕ) → a < 2 ^ 64 → minus (minus a d) S ≡ 0 → a ≡ (d + S) % 2 ^ 64
   left_none a d S h e =
-      let m = minus (plus 0 a) d in
+      let m = minus a d in
       let p : Congruent (2 ^ 64) (0 + S) m = ap (λ x. (x + S) % 2 ^ 64) (sym e) ∙ minus_add m S in
-      let q : Congruent (2 ^ 64) (m + d) (plus 0 a) = minus_add (plus 0 a) d in
-      let z : plus 0 a ≡ a = omega arith in
-      sym (ap (λ x. x % 2 ^ 64) (omega arith) ∙ congruent_add (2 ^ 64) (0 + S) d m d p refl ∙ q ∙ ap (λ x. x % 2 ^ 64) z ∙ mod-eq_of_lt h)
+      let q : Congruent (2 ^ 64) (m + d) a = minus_add a d in
+      sym (ap (λ x. x % 2 ^ 64) (omega arith) ∙ congruent_add (2 ^ 64) (0 + S) d m d p refl ∙ q ∙ mod-eq_of_lt h)
 
-  none_left : (a d S : ℕ) → a ≡ (d + S) % 2 ^ 64 → minus (minus (plus 0 a) d) S ≡ 0
+  none_left : (a d S : ℕ) → a ≡ (d + S) % 2 ^ 64 → minus (minus a d) S ≡ 0
   none_left a d S e =
-      let m = minus (plus 0 a) d in
-      let q : Congruent (2 ^ 64) (m + d) (plus 0 a) = minus_add (plus 0 a) d in
+      let m = minus a d in
+      let q : Congruent (2 ^ 64) (m + d) a = minus_add a d in
       sym (minus_congruent 0 m S (omega arith) (congruent_cancel (2 ^ 64) (0 + S) m d (omega (arith, q))))
 
-  module _ (base : ℕ) (at : CountsFrom n i base) (t u w : List ℕ) (first : t ≡ words_by plus 16 s (base + c) (replicate 16 0)) (own : OwnBy minus i c t u)
+  -- t has the stored counts
+  module _ (t u w : List ℕ) (stored : (j : ℕ) → j < 16 → get_or t j 0 ≡ count_at n s i (c + j)) (own : OwnBy minus i c t u)
       (taken : SumsBy minus n s c 16 mask u w n) where
     -- what is left at place j
-    left : (j : ℕ) → j < 16 → get_or w j 0 ≡ minus (minus (plus 0 (count_at n s i (c + j))) (delta i (c + j))) (sum n (λ b. bit mask b * count_at n s b (c + j)))
+    left : (j : ℕ) → j < 16 → get_or w j 0 ≡ minus (minus (count_at n s i (c + j)) (delta i (c + j))) (sum n (λ b. bit mask b * count_at n s b (c + j)))
     left j h =
-        let x : get_or t j 0 ≡ plus 0 (count_at n s i (c + j))
-        = words_at plus 16 s (base + c) (replicate 16 0) t first j h (rw (length-replicate {A = ℕ} 16 0) h)
-        ∙ ap₂ plus (get_or-replicate {A = ℕ} 16 j 0 0 h) (block_count n s i base c at j) in
-        let y : get_or u j 0 ≡ minus (plus 0 (count_at n s i (c + j))) (delta i (c + j))
-        = own.each j h (rw x (mod-lt _ (pow_pos 64))) ∙ ap (λ (z : ℕ). minus z (delta i (c + j))) x in
+        let y : get_or u j 0 ≡ minus (count_at n s i (c + j)) (delta i (c + j))
+        = own.each j h ∙ ap (λ (z : ℕ). minus z (delta i (c + j))) (stored j h) in
         taken.each j h (rw y (minus_lt _ _)) ∙ ap (λ (z : ℕ). minus z (sum n (λ b. bit mask b * count_at n s b (c + j)))) y
 
-    pub part_same : (r : Bool) → ((k : ℕ) → get_or s k 0 < 2 ^ 64) → Reflects r (SameWords 16 w 0 (replicate 16 0)) → Reflects r (PartHolds n s i c mask)
-    part_same r small same = record {
+    pub part_same : (m : ℕ) (r : Bool) → m ≡ 16 → Reflects r (SameWords m w (replicate 16 0)) → Reflects r (PartHolds n s i c mask)
+    part_same m r em same = record {
       holds = λ e. by_place (λ j. count_at n s i j ≡ count_by_mask n s i j mask)
-          (λ j h. left_none _ _ _ (small _) (sym (left j h) ∙ zero_at j ∙ same.holds e j h ∙ get_or-replicate {A = ℕ} 16 j 0 0 h));
+          (λ j h. left_none _ _ _ (rw (stored j h) at (own.fits j)) (sym (left j h) ∙ same.holds e j (omega arith) ∙ get_or-replicate {A = ℕ} 16 j 0 0 h));
       shows = λ h. same.shows
-          (λ j l. sym (zero_at j) ∙ left j l ∙ none_left _ _ _ (h (c + j) (omega arith) (omega arith)) ∙ sym (get_or-replicate {A = ℕ} 16 j 0 0 l));
+          (λ j l. left j (omega arith) ∙ none_left _ _ _ (h (c + j) (omega arith) (omega arith)) ∙ sym (get_or-replicate {A = ℕ} 16 j 0 0 (omega arith)));
     }
-      where
-        zero_at : (j : ℕ) → get_or w j 0 ≡ get_or w (0 + j) 0
-        zero_at j = ap (λ (k : ℕ). get_or w k 0) (omega arith)
 
 -- ---- the vertices that lead to a column of the block
 
@@ -152,9 +135,6 @@ pub record Unled (n : ℕ) (t : List ℕ) (v : ℕ → ℕ) (c k leading : ℕ) 
   pub columns : HasColumns c leading
   pub none : (m : ℕ) → m < k → bit leading (v m) ≡ 0 → (j : ℕ) → c ≤ j → j < c + 16 → count_at n t (v m) j ≡ 0
 
-pub unled_start : (n : ℕ) (t : List ℕ) (v : ℕ → ℕ) (c leading : ℕ) → HasColumns c leading → Unled n t v c 0 leading
-unled_start n t v c leading h = record { columns = h; none = λ m q. absurd (omega arith) }
-
 columns_led : (i c leading mask r : ℕ) → HasColumns c leading → Led i leading mask r → HasColumns c r
 columns_led i c leading mask r was led k low high =
     elim (ℕ_discrete k i) [
@@ -182,9 +162,6 @@ unled_more n t u v c k leading mask r was led here other = record {
         ]
       ];
 }
-
-pub leading_below : (n row leading : ℕ) → row < 2 ^ n → bit_and row leading < 2 ^ n
-leading_below n row leading h = lt_of_le_of_lt (and_le_l row leading) h
 
 -- a successor that is not among the leading may be left out of the sum
 pub led_sum : (n : ℕ) (t l : List ℕ) (c k leading : ℕ) → Ordered n t l → k < n → Unled n t (vertex_at l) c k leading
@@ -256,17 +233,3 @@ module _ (n : ℕ) (s l : List ℕ) (h : Ordered n s l) (c : ℕ) where
 -- the counts to the columns below c satisfy the recurrence
 abbrev pub Held : ℕ → List ℕ → ℕ → Type 0
 Held n s c = (i j : ℕ) → i < n → j < n → j < c → count_at n s i j ≡ successors_sum n s i j
-
-module _ (n : ℕ) (s : List ℕ) (c a : ℕ) (at : BlockAt n c a) where
-  pub held_more : Held n s c → BlockHolds n s a → Held n s (c + 16)
-  held_more was block i j hi hj q =
-      elim (dec_lt j c) [
-        | yes p ↦ was i j hi hj p
-        | no p ↦ block i hi j (omega (arith, at.low)) (at.holds j hj q)
-      ]
-
-  pub held_fails : (t : Bool) → Reflects t (BlockHolds n s a) → not t ≡ true → Reflects false ((i : ℕ) → i < n → CountsHold n s i)
-  held_fails t r e = reflects_none (λ all. (reflects_false r).0 (not-true t e) (λ i hi j low high. all i hi j (omega (arith, at.within))))
-
-pub held_all : (n : ℕ) (s : List ℕ) (c : ℕ) → Held n s c → n ≤ c → Reflects true ((i : ℕ) → i < n → CountsHold n s i)
-held_all n s c was e = reflects_true (λ i hi j hj. was i j hi hj (omega arith))

@@ -1,6 +1,6 @@
 -- What the internal functions that work by blocks of columns ask and promise. No public call's contract cites these. Definitions only.
 -- Assumes nothing.
-use Rattle.std.specs.Prelude.{◌≡◌, ℕ, ◌+◌, ◌*◌, ◌%◌, ◌^◌, ◌<◌, ◌≤◌, ◌⊎◌, List, length, ◌≢◌, slice_index}
+use Rattle.std.specs.Prelude.{◌≡◌, ℕ, ◌+◌, ◌*◌, ◌%◌, ◌^◌, ◌<◌, ◌≤◌, ◌⊎◌, List, length, ◌≢◌, slice_index, Option, Some, None}
 use Rattle.sums.specs.Sum.{sum, delta}
 use Rattle.word.specs.Bit.{bit}
 use Rattle.sheet_theory.specs.Layout.{Shape, count_at}
@@ -19,10 +19,10 @@ pub record UnitWords (u : List ℕ) : Type 0 where
   pub long : length u ≡ unit_words
   pub one : (k : ℕ) → k < unit_words → slice_index u k ≡ delta k columns
 
--- r is the place of i among the columns from c on, or 16 or more if i is none of them
-pub record PlaceOf (i c r : ℕ) : Type 0 where
-  pub inside : r < columns → i ≡ c + r
-  pub outside : columns ≤ r → (i < c) ⊎ (c + columns ≤ i)
+-- r is the place of i among the columns from c on, or none if i is none of them
+abbrev pub PlaceOf : ℕ → ℕ → Option ℕ → Type 0
+PlaceOf i c (Some r) = (r < columns) × (i ≡ c + r)
+PlaceOf i c None = (i < c) ⊎ (c + columns ≤ i)
 
 -- s is a sheet of n vertices, the block from c on lies within the n columns, and u has the words of `UnitWords`
 pub record BlockReady (n : ℕ) (s : List ℕ) (c : ℕ) (u : List ℕ) : Type 0 where
@@ -30,10 +30,12 @@ pub record BlockReady (n : ℕ) (s : List ℕ) (c : ℕ) (u : List ℕ) : Type 0
   pub within : c + columns ≤ n
   pub unit : UnitWords u
 
--- u is t with one added or taken off at the place of i, if it is among the columns from c on: op is `plus` or `minus`
+-- u is t, which has words of 64 bits, with one added or taken off at the place of i, if it is among the columns from c on: op is `plus`
+-- or `minus`
 pub record OwnBy (op : ℕ → ℕ → ℕ) (i c : ℕ) (t u : List ℕ) : Type 0 where
   pub long : length u ≡ columns
-  pub each : (j : ℕ) → j < columns → slice_index t j < 2 ^ 64 → slice_index u j ≡ op (slice_index t j) (delta i (c + j))
+  pub fits : (j : ℕ) → slice_index t j < 2 ^ 64
+  pub each : (j : ℕ) → j < columns → slice_index u j ≡ op (slice_index t j) (delta i (c + j))
 
 -- the count from i to j that the recurrence gives, if the edges from i lead to the vertices of the mask, modulo 2 ^ 64
 abbrev pub count_by_mask : ℕ → List ℕ → ℕ → ℕ → ℕ → ℕ

@@ -4,17 +4,17 @@
 #![tactic(auto)]
 
 ghost use Rattle.std.specs.Prelude.{◌≡◌, ℕ, ◌+◌, ◌^◌, ◌<◌, ◌≤◌, length};
-ghost use Rattle.word.specs.Wrap.{plus, minus};
 ghost use Rattle.answer.specs.Table.{Reflects};
 ghost use Rattle.sheet_theory.specs.Layout.{most_vertices, Shape};
 ghost use Rattle.sheet_theory.specs.Internal.{CountsHold, RowsBelow};
 ghost use Rattle.order.specs.Internal.{Ordered};
-ghost use Rattle.vertex_counts.specs.Internal.{counted, ColumnsFilled};
-ghost use Rattle.sheet.specs.Internal.{words_by, SumsBy, with_counts};
+ghost use Rattle.vertex_counts.specs.Internal.{SameWords, counted, ColumnsFilled};
+ghost use Rattle.sheet.specs.Internal.{with_counts};
 ghost use Rattle.count_blocks.specs.Internal.{columns, UnitWords, PlaceOf, OwnBy, count_by_mask, BlockCounted, PartHolds};
 ghost use Rattle.count_blocks.specs.Internal.{HasColumns, Led, BlockAt, BlockReady, BlockHolds};
 
-use sheet::Sheet;
+use sheet::{Sheet, View};
+use word::{Combine, Minus, Plus};
 
 // Internal: the columns of a block, whose counts are worked out together: so many that their sums fit in registers.
 pub const COLUMNS: usize = 16;
@@ -32,40 +32,86 @@ fn unit_words() -> [u64; UNIT_WORDS]
     unit
 }
 
-// The place of i among the columns from c on. It is COLUMNS or more exactly if i is none of them, so one test tells.
-fn place_of(i: usize, c: usize) -> usize
-    requires { (i < most_vertices) × (c < most_vertices) }
-    ensures { PlaceOf i c result }
-{
-    std::num::wrapping_sub_usize(i, c)
+// A block of a sheet that is lent to be read: its columns are those from c on. With it go the words of `unit_words`.
+#[derive(Clone, Copy)]
+struct Block<'a, 'b> {
+    sheet: View<'a>,
+    c: usize,
+    unit: &'b [u64],
+    ghost within: { c + columns ≤ sheet.n },
+    ghost made: { UnitWords unit.now },
 }
 
-// The path from i to itself, added to the counts from i to the columns from c on.
-fn add_own(i: usize, c: usize, unit: &[u64; UNIT_WORDS], t: &mut [u64; COLUMNS])
-    requires { (i < most_vertices) × (c < most_vertices) × (UnitWords unit.now) × (length t.old ≡ columns) }
-    ensures { OwnBy plus i c t.old t.new }
-{
-    let place = place_of(i, c);
-    if place < COLUMNS {
-        sheet::words::add_words(COLUMNS, unit, COLUMNS - place, t);
+impl<'a, 'b> Block<'a, 'b> {
+    // The place of i among the columns, if it is one of them. Where i is before them the difference is beyond every place, so one test tells.
+    fn place_of(self, i: usize) -> Option<usize>
+        requires { i < most_vertices }
+        ensures { PlaceOf i self.entry.c result }
+    {
+        let place = i.wrapping_sub(self.c);
+        if place < COLUMNS { Some(place) } else { None }
+    }
+
+    // The path from i to itself, combined with the counts from i to the columns: added to them, or taken off.
+    fn combine_own<C: Combine>(self, i: usize, t: &mut [u64; COLUMNS])
+        requires { i < most_vertices }
+        ensures { OwnBy C.op i self.entry.c t.old t.new }
+    {
+        if let Some(place) = self.place_of(i) {
+            let from = COLUMNS - place;
+            sheet::words::combine_words::<C>(&self.unit[from..from + COLUMNS], t);
+        }
+    }
+
+    // The counts from i to the columns that the recurrence gives, if the edges from i lead to the vertices of the mask.
+    fn counts(self, i: usize, mask: u64) -> [u64; COLUMNS]
+        requires { (i < self.sheet.n) × (mask < 2 ^ self.sheet.n) }
+        ensures { BlockCounted self.entry.sheet.n self.entry.sheet.words.now i self.entry.c mask result }
+    {
+        let mut t = [0u64; COLUMNS];
+        self.sheet
+            .combine_counts::<Plus>(self.c, COLUMNS, mask, &mut t);
+        self.combine_own::<Plus>(i, &mut t);
+        t
+    }
+
+    // Whether the counts from i to the columns are those that the recurrence gives, if the edges from i lead to the vertices of the mask:
+    // whether nothing is left of them once these are taken off.
+    fn part_holds(self, i: usize, mask: u64) -> bool
+        requires { (i < self.sheet.n) × (mask < 2 ^ self.sheet.n) }
+        ensures { Reflects result (PartHolds self.entry.sheet.n self.entry.sheet.words.now i self.entry.c mask) }
+    {
+        let mut t = block_of(&self.sheet.counts_from(i)[self.c..self.c + COLUMNS]);
+        self.combine_own::<Minus>(i, &mut t);
+        self.sheet
+            .combine_counts::<Minus>(self.c, COLUMNS, mask, &mut t);
+        vertex_counts::same_words(&t, &[0u64; COLUMNS])
+    }
+
+    // Whether the counts from every vertex to the columns satisfy the recurrence.
+    fn holds(self, order: &[usize; Sheet::VERTICES]) -> bool
+        requires { (RowsBelow self.sheet.n self.sheet.words.now) × (Ordered self.sheet.n self.sheet.words.now order.now) }
+        ensures { Reflects result (BlockHolds self.entry.sheet.n self.entry.sheet.words.now self.entry.c) }
+    {
+        let mut leading = block_mask(self.c);
+        for &i in &order[..self.sheet.n] {
+            let mask = self.sheet.row(i) & leading;
+            leading = lead(i, leading, mask);
+            if !self.part_holds(i, mask) {
+                return false;
+            }
+        }
+        true
     }
 }
 
-// The counts from i to the columns from c on that the recurrence gives, if the edges from i lead to the vertices of the mask.
-fn count_block(
-    n: usize,
-    sheet: &[u64],
-    i: usize,
-    c: usize,
-    mask: u64,
-    unit: &[u64; UNIT_WORDS],
-) -> [u64; COLUMNS]
-    requires { (BlockReady n sheet.now c unit.now) × (i < n) × (mask < 2 ^ n) }
-    ensures { BlockCounted n sheet.now i c mask result }
+// The words of a block, copied. They are added to 0, which keeps them in registers: `copy_from_slice` goes through memory.
+fn block_of(words: &[u64]) -> [u64; COLUMNS]
+    requires { length words.now ≡ columns }
+    ensures { SameWords columns result words.now }
 {
     let mut t = [0u64; COLUMNS];
-    sheet::words::add_counts(n, sheet, c, COLUMNS, mask, &mut t);
-    add_own(i, c, unit, &mut t);
+    sheet::words::combine_words::<Plus>(words, &mut t);
     t
 }
 
@@ -78,25 +124,24 @@ fn block_mask(c: usize) -> u64
 }
 
 // The vertices found to lead to one of a block's columns, and i too if an edge leads from it to one of them, a vertex of the mask.
+#[tactic(auto, using(crate::proofs::BlockLaws::led_set, crate::proofs::BlockLaws::led_same))]
 fn lead(i: usize, leading: u64, mask: u64) -> u64
     requires { i < most_vertices }
     ensures { Led i leading mask result }
 {
     if mask != 0 {
-        return word::set_bit(leading, i);
+        word::set_bit(leading, i)
+    } else {
+        leading
     }
-    leading
 }
 
-// Where the block of columns begins that holds column c and those after it: at c, or earlier where fewer than 16 are left.
+// Where the block of columns begins that holds column c and those after it: at c, or earlier where fewer than COLUMNS are left.
 fn block_at(n: usize, c: usize) -> usize
     requires { (columns ≤ n) × (n ≤ most_vertices) × (c < n) }
     ensures { BlockAt n c result }
 {
-    if n < c + COLUMNS {
-        return n - COLUMNS;
-    }
-    c
+    c.min(n - COLUMNS)
 }
 
 // The counts from i to the columns from c on, written.
@@ -104,7 +149,13 @@ fn fill_part(n: usize, sheet: &mut [u64], i: usize, c: usize, mask: u64, unit: &
     requires { (BlockReady n sheet.old c unit.now) × (i < n) × (mask < 2 ^ n) }
     ensures { sheet.new ≡ with_counts n sheet.old i c columns (λ (j : ℕ). count_by_mask n sheet.old i j mask) }
 {
-    let t = count_block(n, sheet, i, c, mask, unit);
+    let lent = View { n, words: sheet };
+    let block = Block {
+        sheet: lent,
+        c,
+        unit,
+    };
+    let t = block.counts(i, mask);
     sheet::words::copy_words(COLUMNS, &t, sheet, sheet::layout::counts_from(n, i) + c);
 }
 
@@ -120,13 +171,10 @@ fn fill_block(
     ensures { ColumnsFilled n sheet.old c columns sheet.new }
 {
     let mut leading = block_mask(c);
-    let mut k = 0;
-    while k < n {
-        let i = order[k];
+    for &i in &order[..n] {
         let mask = sheet[i] & leading;
         leading = lead(i, leading, mask);
         fill_part(n, sheet, i, c, mask, unit);
-        k += 1;
     }
 }
 
@@ -136,107 +184,26 @@ pub fn fill_blocks(n: usize, sheet: &mut [u64], order: &[usize; Sheet::VERTICES]
     ensures { sheet.new ≡ counted n sheet.old }
 {
     let unit = unit_words();
-    let mut c = 0;
-    while c < n {
+    for c in (0..n).step_by(COLUMNS) {
         fill_block(n, sheet, block_at(n, c), order, &unit);
-        c += COLUMNS;
     }
-}
-
-// The n words from base on, taken off the first n of t, modulo 2^64.
-fn take_words(n: usize, words: &[u64], base: usize, t: &mut [u64])
-    requires { (n ≤ length t.old) × (base + n ≤ length words.now) }
-    ensures { t.new ≡ words_by minus n words.now base t.old }
-{
-    let mut j = 0;
-    while j < n {
-        t[j] = word::wrapping_sub(t[j], words[base + j]);
-        j += 1;
-    }
-}
-
-// The path from i to itself, taken off the counts from i to the columns from c on.
-fn take_own(i: usize, c: usize, unit: &[u64; UNIT_WORDS], t: &mut [u64; COLUMNS])
-    requires { (i < most_vertices) × (c < most_vertices) × (UnitWords unit.now) × (length t.old ≡ columns) }
-    ensures { OwnBy minus i c t.old t.new }
-{
-    let place = place_of(i, c);
-    if place < COLUMNS {
-        take_words(COLUMNS, unit, COLUMNS - place, t);
-    }
-}
-
-// The counts from the vertices of the mask to the columns from c on, taken off.
-fn take_counts(n: usize, sheet: &[u64], c: usize, mask: u64, t: &mut [u64; COLUMNS])
-    requires { (Shape n sheet.now) × (c + columns ≤ n) × (mask < 2 ^ n) × (length t.old ≡ columns) }
-    ensures { SumsBy minus n sheet.now c columns mask t.old t.new n }
-{
-    let mut rest = mask;
-    while rest != 0 {
-        let base = sheet::layout::counts_from(n, word::lowest_bit(rest));
-        take_words(COLUMNS, sheet, base + c, t);
-        rest = word::clear_lowest(rest);
-    }
-}
-
-// Whether the counts from i to the columns from c on are those that the recurrence gives, if the edges from i lead to the vertices of
-// the mask: whether nothing is left of them once these are taken off.
-fn part_holds(
-    n: usize,
-    sheet: &[u64],
-    i: usize,
-    c: usize,
-    mask: u64,
-    unit: &[u64; UNIT_WORDS],
-) -> bool
-    requires { (BlockReady n sheet.now c unit.now) × (i < n) × (mask < 2 ^ n) }
-    ensures { Reflects result (PartHolds n sheet.now i c mask) }
-{
-    let zeros = [0u64; COLUMNS];
-    let mut t = [0u64; COLUMNS];
-    sheet::words::add_words(COLUMNS, sheet, sheet::layout::counts_from(n, i) + c, &mut t);
-    take_own(i, c, unit, &mut t);
-    take_counts(n, sheet, c, mask, &mut t);
-    vertex_counts::same_words(COLUMNS, &t, 0, &zeros)
-}
-
-// Whether the counts from every vertex to the columns from c on satisfy the recurrence.
-fn block_holds(
-    n: usize,
-    sheet: &[u64],
-    c: usize,
-    order: &[usize; Sheet::VERTICES],
-    unit: &[u64; UNIT_WORDS],
-) -> bool
-    requires { (BlockReady n sheet.now c unit.now) × (RowsBelow n sheet.now) × (Ordered n sheet.now order.now) }
-    ensures { Reflects result (BlockHolds n sheet.now c) }
-{
-    let mut leading = block_mask(c);
-    let mut k = 0;
-    while k < n {
-        let i = order[k];
-        let mask = sheet[i] & leading;
-        leading = lead(i, leading, mask);
-        if !part_holds(n, sheet, i, c, mask, unit) {
-            return false;
-        }
-        k += 1;
-    }
-    true
 }
 
 // Internal: whether all counts satisfy the recurrence, block by block.
-pub fn blocks_hold(n: usize, sheet: &[u64], order: &[usize; Sheet::VERTICES]) -> bool
-    requires { (Shape n sheet.now) × (RowsBelow n sheet.now) × (Ordered n sheet.now order.now) × (columns ≤ n) }
-    ensures { Reflects result ((i : ℕ) → i < n → CountsHold n sheet.now i) }
+pub fn blocks_hold(sheet: View, order: &[usize; Sheet::VERTICES]) -> bool
+    requires { (RowsBelow sheet.n sheet.words.now) × (Ordered sheet.n sheet.words.now order.now) × (columns ≤ sheet.n) }
+    ensures { Reflects result ((i : ℕ) → i < sheet.entry.n → CountsHold sheet.entry.n sheet.entry.words.now i) }
 {
     let unit = unit_words();
-    let mut c = 0;
-    while c < n {
-        if !block_holds(n, sheet, block_at(n, c), order, &unit) {
+    for c in (0..sheet.n).step_by(COLUMNS) {
+        let block = Block {
+            sheet,
+            c: block_at(sheet.n, c),
+            unit: &unit,
+        };
+        if !block.holds(order) {
             return false;
         }
-        c += COLUMNS;
     }
     true
 }

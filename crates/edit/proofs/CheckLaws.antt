@@ -1,57 +1,28 @@
 -- The laws of the checks of `src/checks.rt`: the ways out of each function, but for what its search gives (SearchLaws).
 -- Assumes nothing.
 use mathlib.Core.Path.{◌≡◌, refl, sym, ap, ◌∙◌}
-use mathlib.Core.Logic.{◌⊎◌, inl, inr, ⊎_elim}
+use mathlib.Core.Logic.{inl, inr, ⊎_elim}
 use mathlib.Core.Bool.{Bool, true, false, not}
-use mathlib.Core.List.{List, []}
-use Prim.Native.Nat.{ℕ, ◌+◌, ◌-◌, ◌^◌, ◌≤◌, ◌<◌}
+use mathlib.Core.List.{List}
+use Prim.Native.Nat.{ℕ, ◌-◌, ◌^◌, ◌≤◌, ◌<◌}
 use native.Mathlib.Decide.{ℕ_discrete}
 use native.Mathlib.Omega.{arith}
-use borrow.Author.Tests.{ltb-true, ltb-false}
 use lib.Bits.{bit_and}
-use lib.Dec.{ltb, eqb}
+use lib.Dec.{eqb}
 use lib.ListN.{get_or}
 use Rattle.word.specs.Bit.{bit, has_bit, with_bit}
 use Rattle.word.proofs.BitLaws.{bit_lt, bit_set_same, bit_set_other, has_true, has_false}
 use Rattle.word.proofs.MaskLaws.{bit_not, and_zero, and_some}
 use Rattle.graph.specs.Update.{into, out, through, Closes}
-use Rattle.answer.specs.Table.{Conditions, First, Reflects}
+use Rattle.answer.specs.Table.{Reflects}
 use Rattle.sheet_theory.specs.Layout.{row_at, count_at, edge_at}
 use Rattle.sheet_theory.specs.Lent.{Lent, mult_at}
-use Rattle.sheet_theory.specs.Conditions.{StrayBit}
-use Rattle.sheet.specs.Internal.{CountsFrom}
+use Rattle.sheet.specs.Internal.{CountsOf}
 use Rattle.answer.proofs.TableLaws.{reflects_true, reflects_iff, reflects_not, reflects_eq, reflects_false}
-use Rattle.sheet_theory.proofs.StrayLaws.{stray_iff}
-use Rattle.sheet.proofs.WordsLaws.{base_count}
 use Rattle.edit_theory.specs.Edit.{at, one_if}
-use Rattle.edit_theory.specs.Table.{SomeEdge, SomeOf, argued, most_parallel}
+use Rattle.edit_theory.specs.Table.{SomeEdge, SomeOf, most_parallel}
 use Rattle.edit.specs.Internal.{EditNumber, RefusedBits, Meets}
 use Rattle.edit_theory.proofs.TestLaws.{named_of, named_into, named_out}
-
--- ---- masks_number
-
-module _ (n v a b : ℕ) where
-  abbrev arguments : Conditions
-  arguments = argued n (at v a b) []
-
-  pub masks_vertex : n ≤ v → First arguments 3
-  masks_vertex h = inl (h, refl)
-
-  there : v < n → ¬ (n ≤ v)
-  there h l = omega arith
-
-  pub masks_predecessors : (t : Bool) → v < n → t ≡ ltb a (2 ^ n) → t ≡ false → First arguments 4
-  masks_predecessors t h et f = inr (there h, inl (inl ((stray_iff n a).1 (ltb-false a (2 ^ n) (sym et ∙ f))), refl))
-
-  pub masks_successors : (t : Bool) → v < n → t ≡ ltb b (2 ^ n) → t ≡ false → First arguments 4
-  masks_successors t h et f = inr (there h, inl (inr ((stray_iff n b).1 (ltb-false b (2 ^ n) (sym et ∙ f))), refl))
-
-  pub masks_good : (t u : Bool) → v < n → t ≡ ltb a (2 ^ n) → t ≡ true → u ≡ ltb b (2 ^ n) → u ≡ true → First arguments 0
-  masks_good t u h et p eu q = inr (there h, inr (none, refl))
-    where
-      none : ¬ (StrayBit n a ⊎ StrayBit n b)
-      none (inl c) = omega (arith, (stray_iff n a).0 c, ltb-true a (2 ^ n) (sym et ∙ p))
-      none (inr c) = omega (arith, (stray_iff n b).0 c, ltb-true b (2 ^ n) (sym eu ∙ q))
 
 -- ---- refused_bits
 
@@ -95,14 +66,14 @@ module _ (inserts : Bool) (n : ℕ) (s : List ℕ) (v a b : ℕ) where
           (λ o. omega (arith, and_zero b r z j o.1, (c j (omega arith)).1 (rw o.0 at x)))
           (named_of v a b i j q)
 
--- ---- meets: the word at k from the base on is the count from x to k
+-- ---- meets: l has the counts from x
 
-module _ (n : ℕ) (s : List ℕ) (x k base : ℕ) (from : CountsFrom n x base) where
-  pub count_some : (get_or s (base + k) 0 ≡ 0 → ⊥) → 0 < count_at n s x k
-  count_some d = elim (ℕ_discrete (count_at n s x k) 0) [ yes e ↦ absurd (d (base_count n s x base from k ∙ e)) | no q ↦ omega (arith, q) ]
+module _ (n : ℕ) (s : List ℕ) (x k : ℕ) (l : List ℕ) (from : CountsOf n s x l) (h : k < n) where
+  pub count_some : (get_or l k 0 ≡ 0 → ⊥) → 0 < count_at n s x k
+  count_some d = elim (ℕ_discrete (count_at n s x k) 0) [ yes e ↦ absurd (d (from.counts k h ∙ e)) | no q ↦ omega (arith, q) ]
 
-  pub count_none : get_or s (base + k) 0 ≡ 0 → ¬ (0 < count_at n s x k)
-  count_none e l = omega (arith, base_count n s x base from k)
+  pub count_none : get_or l k 0 ≡ 0 → ¬ (0 < count_at n s x k)
+  count_none e q = omega (arith, from.counts k h)
 
 -- ---- closes_cycle
 
@@ -132,7 +103,7 @@ module _ (n : ℕ) (s : List ℕ) (v a b : ℕ) (t : Bool) (p : Reflects t (Meet
       back (out i hi o x) = (i, hi, omega arith, (v, h, ap (λ y. bit y v) em ∙ bit_set_same a v, x))
       back (through k i hk hi ok oi x) = (i, hi, omega arith, (k, hk, kept k (omega arith), x))
 
--- ---- edit_number
+-- ---- check_edges
 
 module _ (n : ℕ) (s : Lent) (v a b : ℕ) (inserts : Bool) where
   abbrev Gives : ℕ → Type 0
@@ -143,27 +114,34 @@ module _ (n : ℕ) (s : Lent) (v a b : ℕ) (inserts : Bool) where
   Clash x = SomeEdge n (at v a b) (λ i j. edge_at s.words i j ≡ x)
 
   -- a deletion: t says whether there is an edge that is absent
-  module _ (e : inserts ≡ false) (t : Bool) (p : Reflects t (Clash 0)) where
+  module _ (e : not inserts ≡ true) (t : Bool) (p : Reflects t (Clash (one_if inserts))) where
+    deletes : inserts ≡ false
+    deletes = grind (arith)
+
     pub delete_absent : t ≡ true → Gives 7
     unfolding EditNumber
-    delete_absent f = rw e (inl (p.holds f, refl))
+    delete_absent f = rw deletes (inl ((rw deletes at p).holds f, refl))
 
     pub delete_good : t ≡ false → Gives 0
     unfolding EditNumber
-    delete_good f = rw e (inr ((reflects_false p).0 f, refl))
+    delete_good f = rw deletes (inr ((reflects_false (rw deletes at p)).0 f, refl))
 
   -- an insertion: t and u say whether v is a predecessor or a successor of itself
-  module _ (e : inserts ≡ true) (h : v < n) where
+  module _ (e : not inserts ≡ false) (h : v < n) where
+    inserting : inserts ≡ true
+    inserting = grind (arith)
+
     pub insert_into : (t : Bool) → t ≡ has_bit a v → t ≡ true → Gives 5
     unfolding EditNumber
-    insert_into t et f = rw e (inl ((v, h, v, h, named_into v a b v (has_true a v t et f), refl), refl))
+    insert_into t et f = rw inserting (inl ((v, h, v, h, named_into v a b v (has_true a v t et f), refl), refl))
 
     pub insert_out : (u : Bool) → u ≡ has_bit b v → u ≡ true → Gives 5
     unfolding EditNumber
-    insert_out u eu f = rw e (inl ((v, h, v, h, named_out v a b v (has_true b v u eu f), refl), refl))
+    insert_out u eu f = rw inserting (inl ((v, h, v, h, named_out v a b v (has_true b v u eu f), refl), refl))
 
     -- neither; w says whether there is an edge that is present
-    module _ (t : Bool) (et : t ≡ has_bit a v) (f : t ≡ false) (u : Bool) (eu : u ≡ has_bit b v) (g : u ≡ false) (w : Bool) (p : Reflects w (Clash 1)) where
+    module _ (t : Bool) (et : t ≡ has_bit a v) (f : t ≡ false) (u : Bool) (eu : u ≡ has_bit b v) (g : u ≡ false) (w : Bool)
+        (p : Reflects w (Clash (one_if inserts))) where
       no_loop : ¬ (SomeEdge n (at v a b) (λ i j. i ≡ j))
       no_loop (i, hi, j, hj, q, x) =
           ⊎_elim
@@ -175,18 +153,18 @@ module _ (n : ℕ) (s : Lent) (v a b : ℕ) (inserts : Bool) where
       present : Reflects w (SomeEdge n (at v a b) (λ i j. most_parallel ≤ mult_at n s i j))
       present =
           reflects_iff (λ c. (c.0, c.1, c.2, c.3, c.4, omega (arith, c.5)))
-          (λ c. (c.0, c.1, c.2, c.3, c.4, omega (arith, c.5, bit_lt (row_at s.words c.0) c.2))) p
+          (λ c. (c.0, c.1, c.2, c.3, c.4, omega (arith, c.5, bit_lt (row_at s.words c.0) c.2))) (rw inserting at p)
 
       pub insert_present : w ≡ true → Gives 6
       unfolding EditNumber
-      insert_present k = rw e (inr (no_loop, inl (present.holds k, refl)))
+      insert_present k = rw inserting (inr (no_loop, inl (present.holds k, refl)))
 
       -- no edge is present; r says whether a cycle would close
       module _ (k : w ≡ false) (r : Bool) (q : Reflects r (Closes n (count_at n s.words) v (bit a) (bit b))) where
         pub insert_cycle : r ≡ true → Gives 8
         unfolding EditNumber
-        insert_cycle z = rw e (inr (no_loop, inr ((reflects_false present).0 k, inl (q.holds z, refl))))
+        insert_cycle z = rw inserting (inr (no_loop, inr ((reflects_false present).0 k, inl (q.holds z, refl))))
 
         pub insert_good : r ≡ false → Gives 0
         unfolding EditNumber
-        insert_good z = rw e (inr (no_loop, inr ((reflects_false present).0 k, inr ((reflects_false q).0 z, refl))))
+        insert_good z = rw inserting (inr (no_loop, inr ((reflects_false present).0 k, inr ((reflects_false q).0 z, refl))))

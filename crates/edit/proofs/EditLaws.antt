@@ -1,30 +1,25 @@
--- The core of an edit: the counts and then the rows make the edited sheet; and the ways out of `edit_at`, of the cores and of the four
--- calls. Assumes nothing.
-use mathlib.Core.Path.{◌≡◌, sym, ap, ◌∙◌}
-use mathlib.Core.Bool.{Bool, true, false}
-use mathlib.Core.List.{List, []}
-use Prim.Native.Nat.{ℕ, ◌*◌, ◌%◌, ◌^◌, ◌<◌}
-use native.Mathlib.Omega.{arith}
-use lib.ListN.{length}
-use Rattle.word.proofs.MaskLaws.{one_shl}
+-- An edit: the counts and then the rows make the edited sheet; and the ways out of `edit_at` and of the four calls. Assumes nothing.
+use Rattle.std.proofs.Common.{◌≡◌, Bool, true, false, ℕ, List, [], length, sym, ap, ◌∙◌}
 use Rattle.answer.specs.declared.Answer.{Answer}
+use Rattle.answer.specs.declared.Refusal.{Refusal}
 use Rattle.answer.specs.Table.{First}
-use Rattle.answer.specs.Answers.{answer, decided, answered}
-use Rattle.sheet_theory.specs.Layout.{size, set_bits}
+use Rattle.answer.specs.Answers.{answer, decided, answered, number_of_refusal}
+use Rattle.answer.proofs.TableLaws.{first_only}
+use Rattle.answer.proofs.AnswerLaws.{decided_old}
+use Rattle.answer.proofs.OutcomeLaws.{refusal_some}
+use Rattle.sheet_theory.specs.Layout.{Shape, size, set_bits}
 use Rattle.sheet_theory.specs.Lent.{Lent, lent, Lends}
 use Rattle.sheet_theory.specs.Conditions.{altering}
-use Rattle.answer.proofs.TableLaws.{first_only}
-use Rattle.answer.proofs.AnswerLaws.{decided_old, answered_not, refused_as}
-use Rattle.sheet_theory.proofs.ShapeLaws.{shape_refused, shape_of, shape_passed, vertex_below}
+use Rattle.sheet_theory.proofs.ShapeLaws.{shape_refused, accepted_shape, shape_passed}
 use Rattle.sheet_theory.proofs.LayoutLaws.{length_redone, row_redone, count_redone, rest_redone, redone_ext}
-use Rattle.edit_theory.specs.Edit.{Edges, one, Edit, edge_edit, edges_edit, vertex_of, predecessors_of, successors_of}
+use Rattle.edit_counts.specs.Internal.{Names, counts_edited}
+use Rattle.edit_theory.specs.Edit.{Edges, Edit, edges_edit, vertex_of, predecessors_of, successors_of}
 use Rattle.edit_theory.specs.Book.{opened}
 use Rattle.edit_theory.specs.Table.{argued, most_parallel, effects, asked}
 use Rattle.edit_theory.specs.Outcome.{edited_row, edited, edit_grounds, edit_conditions, edit_number, edit_words, edit_made, edit_answer, edit_after}
-use Rattle.edit_counts.specs.Internal.{Ready, counts_edited}
-use Rattle.edit.specs.Internal.{AskedNumber, EditNumber, Written, Made, Edited, rows_edited}
-use Rattle.edit_theory.proofs.ConditionLaws.{argued_refused, argued_iff, argued_past}
+use Rattle.edit_theory.proofs.ConditionLaws.{argued_refused, argued_iff}
 use Rattle.edit_theory.proofs.Refusals.{edit_first}
+use Rattle.edit.specs.Internal.{EditNumber, Written, Made, rows_edited}
 
 -- ---- the counts and then the rows
 
@@ -44,81 +39,60 @@ counts_rows inserts n s v a b long =
     same = length_redone n _ _ s
 
 -- the way out of `write_edit`: u is the sheet once the counts are edited, w once the rows are
-pub edit_written : (inserts : Bool) (n : ℕ) (s : List ℕ) (v a b : ℕ) → Ready n s v a b → (u w : List ℕ) → u ≡ counts_edited inserts n s v a b
+pub edit_written : (inserts : Bool) (n : ℕ) (s : List ℕ) (v a b : ℕ) → Shape n s → (u w : List ℕ) → u ≡ counts_edited inserts n s v a b
     → w ≡ rows_edited inserts n u v a b → (x : ℕ) → x ≡ set_bits n w → Written inserts n s v a b x w
-edit_written inserts n s v a b h u w eu ew x ex =
+edit_written inserts n s v a b shape u w eu ew x ex =
     let e : w ≡ edited inserts n s v a b =
-    ew ∙ ap (λ (t : List ℕ). rows_edited inserts n t v a b) eu ∙ counts_rows inserts n s v a b h.shape.long in
+    ew ∙ ap (λ (t : List ℕ). rows_edited inserts n t v a b) eu ∙ counts_rows inserts n s v a b shape.long in
     record { words = e; value = ex ∙ ap (set_bits n) e }
 
--- ---- made or not, by the number k that the checks gave
+-- ---- `edit_at`: refused or made, where r is how it answers
 
-pub made_refused : (Number : ℕ → Type 0) (e : Edit) (s : Lent) (k : ℕ) → Number k → (r : Answer) → (k ≡ 0 → ⊥) → r ≡ answer k 0 0 → Made Number e s r s
-made_refused Number e s k f r d er = rw er (record { number = f; answers = sym (answered_not k _ d); leaves = sym (decided_old k _ s d) })
+module _ (inserts : Bool) (n : ℕ) (s : Lent) (v a b : ℕ) (r : Answer) where
+  abbrev MadeHere : Lent → Type 0
+  MadeHere t = Made (EditNumber inserts n s v a b) (edges_edit inserts n v a b) s r t
 
--- the way out of `edit_at` where it is made
-pub effect_made : (inserts : Bool) (n : ℕ) (s : Lent) (v a b k : ℕ) → EditNumber inserts n s v a b k → (r : Answer) (w : List ℕ) (x : ℕ) → k ≡ 0
-    → Written inserts n s.words v a b x w → r ≡ answer 0 0 x → Made (EditNumber inserts n s v a b) (edges_edit inserts n v a b) s r (lent w)
-effect_made inserts n s v a b k f r w x z h er = rw er (record { number = rw z at f; answers = ap (answer 0 0) h.value; leaves = ap lent h.words })
+  pub effect_refused : (e : Refusal) → r ≡ answer (number_of_refusal e) 0 0 → EditNumber inserts n s v a b (number_of_refusal e) → MadeHere s
+  effect_refused e er f =
+      let d : ¬ (number_of_refusal e ≡ 0) = refusal_some e in
+      rw er (record { number = f; answers = ap (answer (number_of_refusal e) 0) (sym (decided_old (number_of_refusal e) _ 0 d)); leaves = sym (decided_old (number_of_refusal e) _ s d) })
 
--- ---- the cores: k is the number that the arguments gave
+  pub effect_made : (w : List ℕ) (x : ℕ) → r ≡ answer 0 0 x → EditNumber inserts n s v a b 0 → Written inserts n s.words v a b x w → MadeHere (lent w)
+  effect_made w x er f h = rw er (record { number = f; answers = ap (answer 0 0) h.value; leaves = ap lent h.words })
 
--- refused by an argument
-pub core_refused : (e : Edit) (s : Lent) (k : ℕ) → First (argued e.vertices e.edges []) k → (r : Answer) → (k ≡ 0 → ⊥) → r ≡ answer k 0 0
-    → Edited e s r s
-unfolding AskedNumber
-core_refused e s k f r d = made_refused (AskedNumber e s) e s k (argued_refused e.vertices e.edges _ k f d) r d
+-- ---- the calls
 
--- or as `edit_at` answers
-module _ (n : ℕ) (s : Lent) (shape : Lends n s) (k : ℕ) (z : k ≡ 0) where
-  pub ready : (g : Edges) → First (argued n g []) k → Ready n s.words (vertex_of g) (predecessors_of g) (successors_of g)
-  ready g f =
-      let a = (argued_past n g [] (rw z at f)).0 in
-      record { shape = shape; vertex = a.vertex; predecessors = a.predecessors; successors = a.successors }
+module _ (e : Edit) (s : Lent) where
+  -- refused by 1 or 2
+  pub altering_refused : (r : Refusal) → First (altering e.vertices s []) (number_of_refusal r) → First (edit_conditions e s) (number_of_refusal r)
+  altering_refused r f = shape_refused e.vertices s (number_of_refusal r) f (refusal_some r) (asked e most_parallel (opened e.vertices s) (edit_grounds e s))
 
-  -- the edges g are those at their vertex by their masks
-  same_effects : (d : Bool) (g : Edges) (j : ℕ) → EditNumber d n s (vertex_of g) (predecessors_of g) (successors_of g) j
-      → First (effects d n most_parallel g (opened n s) (edit_grounds (record { inserts = d; vertices = n; edges = g }) s)) j
-  unfolding EditNumber
-  same_effects true g j f = f
-  same_effects false g j f = f
+  module _ (f : First (altering e.vertices s []) 0) where
+    shape : Lends e.vertices s
+    shape = accepted_shape e.vertices s [] f
 
-  pub core_edited : (inserts : Bool) (g : Edges) → First (argued n g []) k → (r : Answer) (t : Lent)
-      → Made (EditNumber inserts n s (vertex_of g) (predecessors_of g) (successors_of g)) (edges_edit inserts n (vertex_of g) (predecessors_of g) (successors_of g)) s r t
-      → Edited (record { inserts = inserts; vertices = n; edges = g }) s r t
-  unfolding AskedNumber
-  core_edited inserts g f r t h = record {
-    number = (argued_iff n g _ _ (rw z at f)).1 (same_effects inserts g _ h.number);
-    answers = h.answers;
-    leaves = h.leaves;
-  }
+    -- by 3 or 4
+    pub argued_refused_lem : (r : Refusal) → First (argued e.vertices e.edges []) (number_of_refusal r) → First (edit_conditions e s) (number_of_refusal r)
+    argued_refused_lem r g = shape_passed e.vertices s shape _ _ (argued_refused e.vertices e.edges _ _ g (refusal_some r))
 
-  -- one edge has the mask 1 << v, as a word 1 * 2 ^ v modulo 2 ^ 64
-  module _ (u v : ℕ) (f : First (argued n (one u v) []) k) where
-    pub edge_shifts : v < 64
-    edge_shifts = let b = vertex_below n u v [] (rw z at f) in omega (arith, shape.high)
+    -- or as `edit_at` answers: its edges are those of the edit, at their vertex by their masks
+    module _ (g : First (argued e.vertices e.edges []) 0) (inserts : Bool) (n v a b : ℕ) (names : Names e inserts n v a b) where
+      pub names_shape : Shape n s.words
+      names_shape = rw names.vertices shape
 
-    pub edge_ready : Ready n s.words u 0 (1 * 2 ^ v % 2 ^ 64)
-    edge_ready = rw (one_shl v edge_shifts) (ready (one u v) f)
+      same_effects : (d : Bool) (h : Edges) (j : ℕ) → EditNumber d e.vertices s (vertex_of h) (predecessors_of h) (successors_of h) j
+          → First (effects d e.vertices most_parallel h (opened e.vertices s) (edit_grounds (record { inserts = d; vertices = e.vertices; edges = h }) s)) j
+      unfolding EditNumber
+      same_effects true h j x = x
+      same_effects false h j x = x
 
-    pub edge_edited : (inserts : Bool) (r : Answer) (t : Lent)
-        → Made (EditNumber inserts n s u 0 (1 * 2 ^ v % 2 ^ 64)) (edges_edit inserts n u 0 (1 * 2 ^ v % 2 ^ 64)) s r t → Edited (edge_edit inserts n u v) s r t
-    edge_edited inserts r t made = core_edited inserts (one u v) f r t (rw (one_shl v edge_shifts) at made)
-
--- ---- the calls: k is the number that every altering call looks for first
-
-module _ (e : Edit) (s : Lent) (k : ℕ) (f : First (altering e.vertices s []) k) (r : Answer) where
-  pub call_refused : (k ≡ 0 → ⊥) → r ≡ answer k 0 0 → (r ≡ edit_answer e s) × (s ≡ edit_after e s)
-  call_refused d er =
-      refused_as (edit_conditions e s) k _ (shape_refused e.vertices s k f d (asked e most_parallel (opened e.vertices s) (edit_grounds e s))) (edit_first e s) (edit_made e s) s _ r d er
-
-  -- the number of the core is the call's
-  pub call_edited : (t : Lent) → k ≡ 0 → Edited e s r t → (r ≡ edit_answer e s) × (t ≡ edit_after e s)
-  unfolding AskedNumber
-  call_edited t z h =
-      let q : r.number ≡ edit_number e s =
-      first_only (edit_conditions e s) r.number (edit_number e s)
-      (shape_passed e.vertices s (shape_of e.vertices s k f z) (asked e most_parallel (opened e.vertices s) (edit_grounds e s)) _ h.number) (edit_first e s) in (
-        h.answers ∙ ap (λ (y : ℕ). answered y (set_bits e.vertices (edit_words e s))) q,
-        h.leaves ∙ ap (λ (y : ℕ). decided y (edit_made e s) s) q,
-      )
+      pub call_edited : (r : Answer) (t : Lent) → Made (EditNumber inserts n s v a b) (edges_edit inserts n v a b) s r t → (r ≡ edit_answer e s) × (t ≡ edit_after e s)
+      call_edited r t made =
+          let h = rw (names.direction, names.vertices, names.vertex, names.predecessors, names.successors) at made in
+          let q : r.number ≡ edit_number e s =
+          first_only (edit_conditions e s) r.number (edit_number e s)
+          (shape_passed e.vertices s shape (asked e most_parallel (opened e.vertices s) (edit_grounds e s)) _
+          ((argued_iff e.vertices e.edges _ _ g).1 (same_effects e.inserts e.edges _ h.number))) (edit_first e s) in (
+            h.answers ∙ ap (λ (y : ℕ). answered y (set_bits e.vertices (edit_words e s))) q,
+            h.leaves ∙ ap (λ (y : ℕ). decided y (edit_made e s) s) q,
+          )

@@ -6,6 +6,7 @@ use Rattle.answer.specs.Table.{First}
 use Rattle.answer.specs.Answers.{decided, answered}
 use Rattle.sheet_theory.specs.Layout.{count_at, set_bits, redone}
 use Rattle.sheet_theory.specs.Lent.{Lent}
+use Rattle.edit_counts.specs.declared.edges.EdgesAt.{EdgesAt}
 use Rattle.edit_theory.specs.Edit.{at, Edit, edges_edit, one_if, marked}
 use Rattle.edit_theory.specs.Book.{opened}
 use Rattle.edit_theory.specs.Table.{SomeOf, most_parallel, effects, asked}
@@ -33,6 +34,11 @@ pub record Made (Number : ℕ → Type 0) (e : Edit) (s : Lent) (r : Answer) (t 
 
 abbrev pub Edited : Edit → Lent → Answer → Lent → Type 0
 Edited e s r t = Made (AskedNumber e s) e s r t
+
+-- the same of the edges x, once the arguments are in order
+abbrev pub MadeAt : EdgesAt → Lent → Answer → Lent → Type 0
+MadeAt x s r t =
+    Made (EditNumber x.inserts x.n s x.v x.predecessors x.successors) (edges_edit x.inserts x.n x.v x.predecessors x.successors) s r t
 
 -- ---- checks
 

@@ -1,32 +1,18 @@
-// What an edit is refused by, in the table's order. Nothing is written here.
-ghost use Rattle.std.specs.Prelude.{◌≡◌, [], ℕ, ◌<◌, ◌^◌};
+// What an edit is refused by once its arguments are in order, in the table's order. Nothing is written here.
+ghost use Rattle.std.specs.Prelude.{◌≡◌, ℕ, ◌<◌, ◌^◌};
 ghost use Rattle.graph.specs.Update.{Closes};
 ghost use Rattle.word.specs.Bit.{bit};
-ghost use Rattle.answer.specs.Table.{First, Reflects};
-ghost use Rattle.sheet_theory.specs.Layout.{Shape, count_at, edge_at};
+ghost use Rattle.answer.specs.Table.{Reflects};
+ghost use Rattle.answer.specs.Answers.{number_of};
+ghost use Rattle.sheet_theory.specs.Layout.{count_at, edge_at};
 ghost use Rattle.sheet_theory.specs.Lent.{lent};
 ghost use Rattle.edit_theory.specs.Edit.{at, one_if};
-ghost use Rattle.edit_theory.specs.Table.{SomeEdge, SomeOf, argued};
-ghost use Rattle.edit_counts.specs.Internal.{Ready};
+ghost use Rattle.edit_theory.specs.Table.{SomeEdge, SomeOf};
 ghost use Rattle.edit.specs.Internal.{EditNumber, RefusedBits, Meets};
 
-use sheet::Refusal;
-
-// 3 if there is no vertex v, else 4 if a mask has a bit at n or above, else 0.
-pub(crate) fn masks_number(n: usize, v: usize, predecessors: u64, successors: u64) -> u64
-    ensures { First (argued n (at v predecessors successors) []) result }
-{
-    if n <= v {
-        return Numbers::VERTEX;
-    }
-    if !word::within(predecessors, n) {
-        return Numbers::STRAY_BIT;
-    }
-    if !word::within(successors, n) {
-        return Numbers::STRAY_BIT;
-    }
-    0
-}
+use edit_counts::EdgesAt;
+use sheet::{Refusal, View};
+use word::Bits;
 
 // The bits of a row at which an insertion finds an edge, or a deletion misses one.
 fn refused_bits(inserts: bool, row: u64) -> u64
@@ -39,114 +25,88 @@ fn refused_bits(inserts: bool, row: u64) -> u64
 }
 
 // Whether an insertion finds an edge from a vertex of the mask to v, or a deletion misses one.
-fn some_into(inserts: bool, n: usize, sheet: &[u64], v: usize, mask: u64) -> bool
-    requires { (Shape n sheet.now) × (v < n) × (mask < 2 ^ n) }
-    ensures { Reflects result (SomeOf n mask (λ (i : ℕ). edge_at sheet.now i v ≡ one_if inserts)) }
+fn some_into(inserts: bool, sheet: View, v: usize, mask: u64) -> bool
+    requires { (v < sheet.n) × (mask < 2 ^ sheet.n) }
+    ensures { Reflects result (SomeOf sheet.entry.n mask (λ (i : ℕ). edge_at sheet.entry.words.now i v ≡ one_if inserts)) }
 {
-    let mut rest = mask;
-    while rest != 0 {
-        let i = word::lowest_bit(rest);
-        if word::test_bit(refused_bits(inserts, sheet[i]), v) {
+    for i in Bits::of(mask) {
+        if word::test_bit(refused_bits(inserts, sheet.row(i)), v) {
             return true;
         }
-        rest = word::clear_lowest(rest);
     }
     false
 }
 
-// Whether an insertion finds one of the edges at v, or a deletion misses one.
-fn some_edge(
-    inserts: bool,
-    n: usize,
-    sheet: &[u64],
-    v: usize,
-    predecessors: u64,
-    successors: u64,
-) -> bool
-    requires { Ready n sheet.now v predecessors successors }
-    ensures { Reflects result (SomeEdge n (at v predecessors successors) (λ (i j : ℕ). edge_at sheet.now i j ≡ one_if inserts)) }
+// Whether an insertion finds one of the edges, or a deletion misses one.
+fn some_edge(edges: EdgesAt, sheet: View) -> bool
+    requires { sheet.n ≡ edges.n }
+    ensures { Reflects result (SomeEdge sheet.entry.n (at edges.v edges.predecessors edges.successors) (λ (i j : ℕ). edge_at sheet.entry.words.now i j ≡ one_if edges.inserts)) }
 {
-    if some_into(inserts, n, sheet, v, predecessors) {
+    if some_into(edges.inserts, sheet, edges.v, edges.predecessors) {
         return true;
     }
-    successors & refused_bits(inserts, sheet[v]) != 0
+    edges.successors & refused_bits(edges.inserts, sheet.row(edges.v)) != 0
 }
 
 // Whether a count from x to a vertex of the mask is not 0.
-fn meets(n: usize, sheet: &[u64], x: usize, mask: u64) -> bool
-    requires { (Shape n sheet.now) × (x < n) × (mask < 2 ^ n) }
-    ensures { Reflects result (Meets n sheet.now mask x) }
+fn meets(sheet: View, x: usize, mask: u64) -> bool
+    requires { (x < sheet.n) × (mask < 2 ^ sheet.n) }
+    ensures { Reflects result (Meets sheet.entry.n sheet.entry.words.now mask x) }
 {
-    let base = sheet::layout::counts_from(n, x);
-    let mut rest = mask;
-    while rest != 0 {
-        let k = word::lowest_bit(rest);
-        if sheet[base + k] != 0 {
+    let counts = sheet.counts_from(x);
+    for k in Bits::of(mask) {
+        if counts[k] != 0 {
             return true;
         }
-        rest = word::clear_lowest(rest);
     }
     false
 }
 
 // Whether a count from a vertex of the one mask to a vertex of the other is not 0.
-fn some_meets(n: usize, sheet: &[u64], starts: u64, ends: u64) -> bool
-    requires { (Shape n sheet.now) × (starts < 2 ^ n) × (ends < 2 ^ n) }
-    ensures { Reflects result (SomeOf n starts (Meets n sheet.now ends)) }
+fn some_meets(sheet: View, starts: u64, ends: u64) -> bool
+    requires { (starts < 2 ^ sheet.n) × (ends < 2 ^ sheet.n) }
+    ensures { Reflects result (SomeOf sheet.entry.n starts (Meets sheet.entry.n sheet.entry.words.now ends)) }
 {
-    let mut rest = starts;
-    while rest != 0 {
-        let x = word::lowest_bit(rest);
-        if meets(n, sheet, x, ends) {
+    for x in Bits::of(starts) {
+        if meets(sheet, x, ends) {
             return true;
         }
-        rest = word::clear_lowest(rest);
     }
     false
 }
 
-// Whether the counts show a path that the edges at v would close to a cycle: from v to a predecessor, or from a successor to v or to
-// a predecessor.
-fn closes_cycle(n: usize, sheet: &[u64], v: usize, predecessors: u64, successors: u64) -> bool
-    requires { Ready n sheet.now v predecessors successors }
-    ensures { Reflects result (Closes n (count_at n sheet.now) v (bit predecessors) (bit successors)) }
+// Whether the counts show a path that the edges would close to a cycle: from v to a predecessor, or from a successor to v or to a
+// predecessor.
+fn closes_cycle(edges: EdgesAt, sheet: View) -> bool
+    requires { sheet.n ≡ edges.n }
+    ensures { Reflects result (Closes sheet.entry.n (count_at sheet.entry.n sheet.entry.words.now) edges.v (bit edges.predecessors) (bit edges.successors)) }
 {
-    if meets(n, sheet, v, predecessors) {
+    if meets(sheet, edges.v, edges.predecessors) {
         return true;
     }
-    some_meets(n, sheet, successors, word::set_bit(predecessors, v))
+    let ends = word::set_bit(edges.predecessors, edges.v);
+    some_meets(sheet, edges.successors, ends)
 }
 
-// Internal: the number of an edit at v whose arguments are in order, with nothing written: 5, 6 or 8 for an insertion, 7 for a deletion,
-// else 0.
-pub fn edit_number(
-    inserts: bool,
-    n: usize,
-    sheet: &[u64],
-    v: usize,
-    predecessors: u64,
-    successors: u64,
-) -> u64
-    requires { Ready n sheet.now v predecessors successors }
-    ensures { EditNumber inserts n (lent sheet.now) v predecessors successors result }
+// Why the edges can't be inserted, 5, 6 or 8; or why they can't be deleted, 7.
+pub(crate) fn check_edges(edges: EdgesAt, sheet: View) -> Result<(), Refusal>
+    requires { sheet.n ≡ edges.n }
+    ensures { EditNumber edges.inserts sheet.entry.n (lent sheet.entry.words.now) edges.v edges.predecessors edges.successors (number_of result) }
 {
-    if !inserts {
-        if some_edge(false, n, sheet, v, predecessors, successors) {
-            return Numbers::ABSENT;
+    if !edges.inserts {
+        if some_edge(edges, sheet) {
+            return Err(Refusal::Absent);
         }
-        return 0;
+        return Ok(());
     }
-    if word::test_bit(predecessors, v) {
-        return Numbers::SELF_LOOP;
+    if word::test_bit(edges.predecessors, edges.v) || word::test_bit(edges.successors, edges.v) {
+        return Err(Refusal::SelfLoop);
     }
-    if word::test_bit(successors, v) {
-        return Numbers::SELF_LOOP;
+    if some_edge(edges, sheet) {
+        return Err(Refusal::Present);
     }
-    if some_edge(true, n, sheet, v, predecessors, successors) {
-        return Numbers::PRESENT;
+    if closes_cycle(edges, sheet) {
+        return Err(Refusal::Cycle);
     }
-    if closes_cycle(n, sheet, v, predecessors, successors) {
-        return Numbers::CYCLE;
-    }
-    0
+    Ok(())
 }

@@ -1,63 +1,94 @@
--- The laws of the counts as an edit changes them: a sum over the vertices of a mask, words with a multiple of others added, and the counts from the vertices
--- one after the other. Assumes nothing.
-use mathlib.Core.Path.{◌≡◌, refl, sym, ap, ap₂, ◌∙◌}
-use mathlib.Core.Logic.{◌⊎◌, inl, inr}
-use mathlib.Core.Bool.{Bool}
-use mathlib.Core.List.{List}
-use Prim.Native.Nat.{ℕ, ◌+◌, ◌*◌, ◌%◌, ◌^◌, ◌≤◌, ◌<◌}
-use native.Mathlib.Nat.{mod-add-mod, zero-add, zero-mul, suc-mul}
-use native.Mathlib.Decide.{ℕ_discrete}
+-- The laws of the counts as an edit changes them: words with a multiple of others added, and the counts from the vertices one after the
+-- other. Assumes nothing.
+use Rattle.std.proofs.Common.{◌≡◌, ◌⊎◌, inl, inr, Bool, ℕ, ◌+◌, ◌-◌, ◌*◌, ◌%◌, ◌^◌, ◌≤◌, ◌<◌, List, ◌++◌, length, get_or, take, drop, refl, sym, ap, ◌∙◌, arith}
+use native.Mathlib.Nat.{mod-add-mod, zero-mul, suc-mul}
+use native.Mathlib.Decide.{ℕ_discrete, dec_lt}
 use native.Mathlib.Numerals.{add-one}
-use native.Mathlib.Omega.{arith}
-use lib.ListN.{length, get_or, set}
-use Rattle.word.specs.Bit.{bit, Lowest, LowestCleared}
-use Rattle.word.proofs.VisitLaws.{Adding, adding_more, adding_done}
+use lib.ListN.{set}
+use lib.Seq.{ext_get_or}
+use Rattle.sums.proofs.SumLaws.{sum_cong}
+use Rattle.word.specs.Bit.{bit}
 use Rattle.graph.specs.Update.{from_sum, to_sum}
-use Rattle.graph.proofs.Insertion.{from_cong}
-use Rattle.sheet_theory.specs.Layout.{counts_end, Shape, counts_from, row_at, count_at}
-use Rattle.sheet.specs.Fill.{over}
-use Rattle.sheet.specs.Internal.{CountsFrom, CountsSummed, with_counts}
-use Rattle.sheet.proofs.FillLaws.{puts_in, puts_change, over_in, over_only, over_over}
-use Rattle.sheet.proofs.WordsLaws.{base_count, counts_written, counts_long, counts_in, counts_out, counts_stay}
-use Rattle.sheet_theory.proofs.LayoutLaws.{row_counts, from_within, redone_ext, length_redone, row_redone, count_redone, rest_redone}
+use Rattle.sheet_theory.specs.Layout.{Shape, counts_from, row_at, count_at}
+use Rattle.sheet.specs.Internal.{CountsFrom, CountsOf, CountsSummed}
+use Rattle.sheet.proofs.FillLaws.{length_puts, puts_in, puts_out, puts_change}
+use Rattle.sheet.proofs.SliceLaws.{part_long, part_at, replaced_long, replaced_in, replaced_out}
+use Rattle.sheet.proofs.WordsLaws.{base_count}
+use Rattle.sheet_theory.proofs.LayoutLaws.{place_apart, redone_ext, length_redone, row_redone, count_redone, rest_redone}
 use Rattle.edit_theory.specs.Outcome.{edited_count}
-use Rattle.edit_counts.specs.Internal.{to_factor, from_factor, with_factors, with_multiple, counts_from_edited, count_by, counts_by, counts_edited}
+use Rattle.edit_counts.specs.Internal.{to_factor, from_factor, with_factors, sum_at, with_multiple, counts_from_edited, count_by, counts_by, counts_edited}
 use Rattle.edit_counts.proofs.FactorLaws.{edited_by_lem, edited_mod, edited_to}
-
--- ---- the counts from i to the vertices of a mask added up, by the lowest bit of what is left of it
-
-module _ (n : ℕ) (s : List ℕ) (i mask : ℕ) where
-  pub from_more : (rest x k base y r : ℕ) → Adding n mask rest (count_at n s i) x → Lowest rest k → CountsFrom n i base
-      → y ≡ (x + get_or s (base + k) 0) % 2 ^ 64 → LowestCleared rest r → Adding n mask r (count_at n s i) y
-  from_more rest x k base y r was l at ey er =
-      adding_more n mask (count_at n s i) rest x k y r was l (ey ∙ ap (λ z. (x + z) % 2 ^ 64) (base_count n s i base at k)) er
-
-  pub from_done : (rest x : ℕ) → Adding n mask rest (count_at n s i) x → rest ≡ 0 → x ≡ from_sum n (count_at n s) (bit mask) i % 2 ^ 64
-  unfolding from_sum
-  from_done rest x was e = adding_done n mask (count_at n s i) rest x was e
 
 -- ---- words with a multiple of others added
 
-module _ (s : List ℕ) (base x : ℕ) (T : List ℕ) where
-  pub multiple_more : (w : List ℕ) (j a r : ℕ) → w ≡ with_multiple j s base x T → a ≡ x * get_or T j 0 % 2 ^ 64
-      → r ≡ (get_or w (base + j) 0 + a) % 2 ^ 64 → set w (base + j) r ≡ with_multiple (j + 1) s base x T
+module _ (l : List ℕ) (x : ℕ) (T : List ℕ) where
+  pub multiple_more : (w : List ℕ) (j a r : ℕ) → w ≡ with_multiple j l x T → a ≡ x * get_or T j 0 % 2 ^ 64 → r ≡ (get_or w j 0 + a) % 2 ^ 64
+      → set w j r ≡ with_multiple (j + 1) l x T
   multiple_more w j a r ew ea er =
-      puts_change s (λ k. base + k) (λ k y. (y + x * get_or T k 0) % 2 ^ 64) w j (base + j) r ew refl (λ k q e. omega arith) (omega arith)
+      puts_change l (λ k. k) (λ k y. (y + x * get_or T k 0) % 2 ^ 64) w j j r ew refl (λ k q e. omega arith) (omega arith)
+
+  module _ (n : ℕ) (h : n ≤ length l) (w : List ℕ) (ew : w ≡ with_multiple n l x T) where
+    pub multiple_long : length w ≡ length l
+    multiple_long = ap length ew ∙ length_puts l (λ j. j) _ n
+
+    pub multiple_at : (j : ℕ) → j < n → get_or w j 0 ≡ (get_or l j 0 + x * get_or T j 0) % 2 ^ 64
+    multiple_at j q = ap (λ (k : List ℕ). get_or k j 0) ew ∙ puts_in l (λ k. k) _ n j q (omega arith) (λ i y z e. omega arith)
+
+    multiple_out : (k : ℕ) → n ≤ k → get_or w k 0 ≡ get_or l k 0
+    multiple_out k q = ap (λ (y : List ℕ). get_or y k 0) ew ∙ puts_out l (λ j. j) _ n k (λ j p e. omega arith)
 
   -- nothing is added where x is 0
-  pub multiple_none : (n : ℕ) → base + n ≤ length s → ((j : ℕ) → j < n → get_or s (base + j) 0 < 2 ^ 64) → x ≡ 0 → s ≡ with_multiple n s base x T
-  multiple_none n h small e = over_only s s base _ n h refl (λ j q. rw e (simp zero-mul (omega (arith, small j q)))) (λ k q. refl)
+  pub multiple_none : (n : ℕ) → n ≤ length l → ((j : ℕ) → j < n → get_or l j 0 < 2 ^ 64) → x ≡ 0 → l ≡ with_multiple n l x T
+  multiple_none n h small e =
+      ext_get_or 0 l (with_multiple n l x T) (sym (multiple_long n h _ refl))
+      (λ k q.
+      elim (dec_lt k n) [
+        | yes p ↦ sym (multiple_at n h _ refl k p ∙ rw e (simp zero-mul (omega (arith, small k p))))
+        | no p ↦ sym (multiple_out n h _ refl k (omega arith))
+      ])
 
 -- ---- the counts from one vertex
 
--- `edit_counts_from`: both multiples, where f is the sum over the predecessors a and x the factor of T
-pub counts_from_edited_lem : (inserts : Bool) (n : ℕ) (s : List ℕ) (i v a base f x : ℕ) (T U h w : List ℕ) → CountsFrom n i base
-    → f ≡ from_sum n (count_at n s) (bit a) i % 2 ^ 64 → x ≡ to_factor inserts (get_or s (base + v) 0) f → h ≡ with_multiple n s base x T
-    → w ≡ with_multiple n h base f U → w ≡ counts_from_edited inserts n s i v a T U
-counts_from_edited_lem inserts n s i v a base f x T U h w at ef ex eh e =
-    e
-    ∙ ap (λ (l : List ℕ). with_multiple n l base f U) (eh ∙ ap (λ (y : ℕ). with_multiple n s base y T) ex)
-    ∙ ap₂ (λ (k g : ℕ). with_multiple n (with_multiple n s k (to_factor inserts (get_or s (k + v) 0) g) T) k g U) at.is ef
+module _ (inserts : Bool) (n : ℕ) (s : List ℕ) (v a i : ℕ) (T l : List ℕ) where
+  -- the counts from i as the edit leaves them
+  pub record Edited (w : List ℕ) : Type 0 where
+    pub long : length w ≡ n
+    pub counts : (j : ℕ) → j < n → get_or w j 0 ≡ count_by inserts n s v a T i j
+
+  module _ (hv : v < n) (was : CountsOf n s i l) where
+    sums : sum_at n l a ≡ from_sum n (count_at n s) (bit a) i % 2 ^ 64
+    unfolding from_sum
+    sums = ap (λ y. y % 2 ^ 64) (sum_cong n _ _ (λ k q. ap (λ y. bit a k * y) (was.counts k q)))
+
+    -- a turn of `edit_both`
+    pub edited_both : (U z w : List ℕ) → n ≤ length z → U ≡ with_factors inserts n s v T z → w ≡ counts_from_edited inserts n l v a T U → Edited w
+    edited_both U z w h eu ew =
+        let f : ℕ = sum_at n l a in
+        let m : List ℕ = with_multiple n l (to_factor inserts (get_or l v 0) f) T in
+        let fits : n ≤ length l = omega (arith, was.long) in
+        let same : length m ≡ length l = multiple_long l _ T n fits m refl in
+        record {
+          long = multiple_long m f U n (omega (arith, same)) w ew ∙ same ∙ was.long;
+          counts = λ j q.
+              multiple_at m f U n (omega (arith, same)) w ew j q
+              ∙ rw (multiple_at l _ T n fits m refl j q, mod-add-mod, was.counts j q, was.counts v hv, sums, factor j q)
+              (edited_by_lem (count_at n s i j) (count_at n s i v) (count_at n s v j) (from_sum n (count_at n s) (bit a) i) (get_or T j 0) inserts);
+        }
+      where
+        factor : (j : ℕ) → j < n → get_or U j 0 ≡ from_factor inserts (get_or T j 0) (count_at n s v j)
+        factor j hj = ap (λ (r : List ℕ). get_or r j 0) eu ∙ puts_in z (λ k. k) _ n j hj (omega arith) (λ i x y e. omega arith)
+
+    -- a turn of `edit_to`
+    pub edited_alone : (x k : ℕ) (w : List ℕ) → a ≡ 0 → x ≡ to_factor inserts (get_or l v 0) 0 → k ≡ n → w ≡ with_multiple k l x T → Edited w
+    edited_alone x k w ea ex ek ew =
+        let fits : n ≤ length l = omega (arith, was.long) in
+        let ew' : w ≡ with_multiple n l x T = ew ∙ ap (λ y. with_multiple y l x T) ek in
+        record {
+          long = multiple_long l x T n fits w ew' ∙ was.long;
+          counts = λ j q.
+              multiple_at l x T n fits w ew' j q
+              ∙ rw (ex, was.counts j q, was.counts v hv, ea) (edited_to inserts n (count_at n s) i _ _ (count_at n s v j) (get_or T j 0));
+        }
 
 -- ---- the vertices one after the other
 
@@ -77,103 +108,41 @@ module _ (inserts : Bool) (n : ℕ) (s : List ℕ) (v a : ℕ) (T : List ℕ) wh
       (λ k j hk hj. was.done k (omega arith) j hj)
       (λ x q. was.kept x (inr (rw e q)))
 
-  module _ (shape : Shape n s) (i : ℕ) (t : List ℕ) (was : Editing inserts n s v a T i t) where
-    pub editing_shape : Shape n t
-    editing_shape = record { low = shape.low; high = shape.high; long = was.long ∙ shape.long }
+  module _ (shape : Shape n s) (i : ℕ) (t : List ℕ) (was : Editing inserts n s v a T i t) (hi : i < n) (base : ℕ) (at : CountsFrom n i base) where
+    pub editing_fits : base + n ≤ length t
+    editing_fits = omega (arith, at.within, was.long, shape.long)
 
-    -- a turn of either loop, which leaves f for the counts from i
-    editing_more : (f : ℕ → ℕ) (w : List ℕ) → counts_from n i + n ≤ length t → w ≡ over t (counts_from n i) f n
-        → ((j : ℕ) → j < n → f j ≡ count_by inserts n s v a T i j) → Editing inserts n s v a T (i + 1) w
-    editing_more f w fits e is =
+    -- what is lent are the counts from i
+    pub editing_lent : CountsOf n s i (take (base + n - base) (drop base t))
+    editing_lent = record {
+      long = part_long t base (base + n) editing_fits (omega arith) ∙ omega arith;
+      counts = λ j q.
+          part_at t base (base + n) editing_fits j (omega arith)
+          ∙ base_count n t i base at j
+          ∙ was.kept (counts_from n i + j) (inr (omega arith));
+    }
+
+    -- a turn of either loop, which leaves w for them
+    pub editing_more : (l w : List ℕ) → Edited inserts n s v a i T l w
+        → Editing inserts n s v a T (i + 1) (take base t ++ (w ++ drop (base + n - base) (drop base t)))
+    editing_more l w row =
+        let k : base + n - base ≡ n = omega arith in
+        rw k
         record {
-          long = counts_long _ _ _ _ _ _ _ row ∙ was.long;
+          long = replaced_long t w base n editing_fits row.long ∙ was.long;
           done = λ k q j hj.
               elim (ℕ_discrete k i) [
-                | yes p ↦ rw p (counts_in _ _ _ _ _ _ _ row (omega arith) j (omega arith) (omega arith))
-                | no p ↦ counts_stay _ _ _ _ _ _ _ row (omega arith) k j hj (λ o. absurd (p o)) ∙ was.done k (omega (arith, p)) j hj
+                | yes p ↦ rw p (ap (λ (y : ℕ). get_or (take base t ++ (w ++ drop n (drop base t))) (y + j) 0) (sym at.is) ∙ replaced_in t w base n editing_fits row.long j hj ∙ row.counts j hj)
+                | no p ↦ replaced_out t w base n editing_fits row.long (counts_from n k + j) (rw at.is (place_apart n k i j p hj)) ∙ was.done k (omega (arith, p)) j hj
               ];
           kept = λ x q.
               elim q [
-                | inl p ↦ counts_out _ _ _ _ _ _ _ row x (inl (omega arith)) ∙ was.kept x (inl p)
-                | inr p ↦ counts_out _ _ _ _ _ _ _ row x (inr (omega (arith, suc-mul i n, add-one i))) ∙ was.kept x (inr (omega (arith, suc-mul i n, add-one i)))
+                | inl p ↦ replaced_out t w base n editing_fits row.long x (inl (omega (arith, at.is))) ∙ was.kept x (inl p)
+                | inr p ↦
+                    let after : base + n ≤ x = omega (arith, suc-mul i n, add-one i, at.is) in
+                    replaced_out t w base n editing_fits row.long x (inr after) ∙ was.kept x (inr (omega (arith, at.is)))
               ];
         }
-      where
-        g : ℕ → ℕ
-        g = count_by inserts n s v a T i
-
-        row : w ≡ with_counts n t i 0 n g
-        row = counts_written n t i 0 n g w (counts_from n i) f e (omega arith) (λ j q. is j q ∙ ap g (sym (zero-add j)))
-
-    same : (j : ℕ) → count_at n t i j ≡ count_at n s i j
-    same j = was.kept (counts_from n i + j) (inr (omega arith))
-
-    module _ (hi : i < n) (w : List ℕ) where
-      fits : counts_from n i + n ≤ length t
-      fits = omega (arith, from_within n i hi, was.long, shape.long)
-
-      -- a turn of `edit_both`
-      pub editing_both : (U l : List ℕ) → n ≤ length l → U ≡ with_factors inserts n s v T l → w ≡ counts_from_edited inserts n t i v a T U
-          → Editing inserts n s v a T (i + 1) w
-      editing_both U l h eu e =
-          editing_more _ w fits (e ∙ over_over t (counts_from n i) _ _ n fits)
-          (λ j hj. rw (over_in t (counts_from n i) _ n j fits hj, mod-add-mod, same j, same v, from_cong n (count_at n t) (count_at n s) (bit a) i (λ k l. same k), factor j hj)
-          (edited_by_lem (count_at n s i j) (count_at n s i v) (count_at n s v j) _ (get_or T j 0) inserts))
-        where
-          factor : (j : ℕ) → j < n → get_or U j 0 ≡ from_factor inserts (get_or T j 0) (count_at n s v j)
-          factor j hj = ap (λ (r : List ℕ). get_or r j 0) eu ∙ puts_in l (λ k. k) _ n j hj (omega arith) (λ i x y e. omega arith)
-
-      -- a turn of `edit_to`
-      editing_to : (x : ℕ) → a ≡ 0 → x ≡ to_factor inserts (count_at n t i v) 0 → w ≡ with_multiple n t (counts_from n i) x T
-          → Editing inserts n s v a T (i + 1) w
-      editing_to x ea ex e =
-          editing_more _ w fits e
-          (λ j hj. rw (ex, same j, same v, ea) (edited_to inserts n (count_at n s) i _ _ (count_at n s v j) (get_or T j 0)))
-
--- ---- the same by where the counts from a vertex begin
-
--- t is s with the counts before base as the edit without predecessors leaves them; those from the vertex that is next begin at base
-pub record At (inserts : Bool) (n : ℕ) (s : List ℕ) (v : ℕ) (T : List ℕ) (base : ℕ) (t : List ℕ) : Type 0 where
-  pub next : ℕ
-  pub most : next ≤ n
-  pub is : base ≡ counts_from n next
-  pub editing : Editing inserts n s v 0 T next t
-
-module _ (inserts : Bool) (n : ℕ) (s : List ℕ) (v : ℕ) (T : List ℕ) where
-  pub at_start : At inserts n s v T n s
-  at_start = record { next = 0; most = omega arith; is = omega (arith, zero-mul n); editing = editing_start inserts n s v 0 T }
-
-  module _ (shape : Shape n s) (hv : v < n) (base : ℕ) (t : List ℕ) (was : At inserts n s v T base t) where
-    at_vertex : base < counts_end n → was.next < n
-    at_vertex h =
-        elim (ℕ_discrete was.next n) [
-          | no d ↦ omega (arith, d, was.most)
-          | yes e ↦ absurd (omega (arith, was.is ∙ ap (counts_from n) e))
-        ]
-
-    -- the counts from a vertex are left, all of them
-    pub at_fits : base < counts_end n → base + n ≤ length s
-    at_fits h = omega (arith, from_within n was.next (at_vertex h), shape.long, was.is)
-
-    pub at_more : (x : ℕ) (w : List ℕ) → base < counts_end n → x ≡ to_factor inserts (get_or t (base + v) 0) 0 → w ≡ with_multiple n t base x T
-        → At inserts n s v T (base + n) w
-    at_more x w h ex e =
-        record {
-          next = was.next + 1;
-          most = omega (arith, at_vertex h);
-          is = omega (arith, was.is, suc-mul was.next n, add-one was.next);
-          editing = editing_to inserts n s v 0 T shape was.next t was.editing (at_vertex h) w x refl
-              (ex ∙ ap (λ (k : ℕ). to_factor inserts (get_or t (k + v) 0) 0) was.is)
-              (e ∙ ap (λ (k : ℕ). with_multiple n t k x T) was.is);
-        }
-
-    pub at_all : counts_end n ≤ base → t ≡ counts_by inserts n s v 0 T
-    at_all h =
-        editing_all inserts n s v 0 T was.next t was.editing
-        (elim (ℕ_discrete was.next n) [
-          | yes e ↦ e
-          | no d ↦ absurd (omega (arith, row_counts n was.next (omega (arith, d, was.most)), shape.low, was.is))
-        ])
 
 -- `edit_counts`: the counts by the sums t for the successors b, with k for the predecessors a
 pub counts_edited_lem : (inserts : Bool) (n : ℕ) (s : List ℕ) (v a b k : ℕ) (t w : List ℕ) → Shape n s → CountsSummed n s b t → a ≡ k

@@ -1,2 +1,3 @@
+pub mod EdgesLaws
 pub mod FactorLaws
 pub mod EditedCounts

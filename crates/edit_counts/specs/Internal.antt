@@ -1,19 +1,22 @@
 -- What the internal functions that bring the counts up to date ask and promise. No public call's contract cites these. Definitions only.
 -- Assumes nothing.
-use Rattle.std.specs.Prelude.{Bool, true, false, List, ℕ, ◌+◌, ◌*◌, ◌%◌, ◌^◌, ◌<◌, get_or}
+use Rattle.std.specs.Prelude.{◌≡◌, Bool, true, false, List, ℕ, ◌+◌, ◌*◌, ◌%◌, ◌^◌, get_or}
+use Rattle.sums.specs.Sum.{sum}
 use Rattle.word.specs.Bit.{bit}
 use Rattle.word.specs.Wrap.{minus}
 use Rattle.graph.specs.Update.{from_sum}
-use Rattle.sheet_theory.specs.Layout.{Shape, row_at, counts_from, count_at, redone}
-use Rattle.sheet.specs.Fill.{puts, over}
+use Rattle.sheet_theory.specs.Layout.{row_at, count_at, redone}
+use Rattle.sheet.specs.Fill.{puts}
+use Rattle.edit_theory.specs.Edit.{Edit, vertex_of, predecessors_of, successors_of}
 use Rattle.edit_theory.specs.Outcome.{edited_by, edited_count}
 
--- the arguments of an edit at v by the masks a and b are in order
-pub record Ready (n : ℕ) (s : List ℕ) (v a b : ℕ) : Type 0 where
-  pub shape : Shape n s
-  pub vertex : v < n
-  pub predecessors : a < 2 ^ n
-  pub successors : b < 2 ^ n
+-- the edit e, at the vertex v of n by the masks a and b
+pub record Names (e : Edit) (inserts : Bool) (n v a b : ℕ) : Type 0 where
+  pub direction : inserts ≡ e.inserts
+  pub vertices : n ≡ e.vertices
+  pub vertex : v ≡ vertex_of e.edges
+  pub predecessors : a ≡ predecessors_of e.edges
+  pub successors : b ≡ successors_of e.edges
 
 -- what the sum T is multiplied by: x, or f less x, modulo 2 ^ 64
 unfoldable pub to_factor : Bool → ℕ → ℕ → ℕ
@@ -29,15 +32,20 @@ from_factor false t y = minus 0 y
 abbrev pub with_factors : Bool → ℕ → List ℕ → ℕ → List ℕ → List ℕ → List ℕ
 with_factors inserts n s v t u = puts u (λ j. j) (λ j. from_factor inserts (get_or t j 0) (count_at n s v j)) n
 
--- s with x times t added to the n words from base on, modulo 2 ^ 64
-abbrev pub with_multiple : ℕ → List ℕ → ℕ → ℕ → List ℕ → List ℕ
-with_multiple n s base x t = over s base (λ j. (get_or s (base + j) 0 + x * get_or t j 0) % 2 ^ 64) n
+-- the sum of those of the first n words of l whose places are in the mask, modulo 2 ^ 64
+abbrev pub sum_at : ℕ → List ℕ → ℕ → ℕ
+sum_at n l mask = sum n (λ k. bit mask k * get_or l k 0) % 2 ^ 64
 
--- s with a multiple of t, and then one of u, added to the counts from i, by the count to v and the sum over the predecessors a
-abbrev pub counts_from_edited : Bool → ℕ → List ℕ → ℕ → ℕ → ℕ → List ℕ → List ℕ → List ℕ
-counts_from_edited inserts n s i v a t u =
-    let f = from_sum n (count_at n s) (bit a) i % 2 ^ 64 in
-    with_multiple n (with_multiple n s (counts_from n i) (to_factor inserts (count_at n s i v) f) t) (counts_from n i) f u
+-- l with x times t added to the first n words, modulo 2 ^ 64
+abbrev pub with_multiple : ℕ → List ℕ → ℕ → List ℕ → List ℕ
+with_multiple n l x t = puts l (λ j. j) (λ j. (get_or l j 0 + x * get_or t j 0) % 2 ^ 64) n
+
+-- l, which has the counts from a vertex, with a multiple of t, and then one of u, added, by the count to v and the sum over the
+-- predecessors a
+abbrev pub counts_from_edited : Bool → ℕ → List ℕ → ℕ → ℕ → List ℕ → List ℕ → List ℕ
+counts_from_edited inserts n l v a t u =
+    let f = sum_at n l a in
+    with_multiple n (with_multiple n l (to_factor inserts (get_or l v 0) f) t) f u
 
 -- the count from i to j as the edit leaves it, where t has the sums T
 abbrev pub count_by : Bool → ℕ → List ℕ → ℕ → ℕ → List ℕ → ℕ → ℕ → ℕ

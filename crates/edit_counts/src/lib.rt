@@ -4,13 +4,15 @@
 // x T + F (T + y) to the count from i to j, and a deletion (F - x) T + F (-y).
 #![tactic(auto)]
 
-ghost use Rattle.std.specs.Prelude.{◌≡◌, ◌+◌, ◌%◌, ◌≤◌, ◌<◌, ◌^◌, length};
-ghost use Rattle.word.specs.Bit.{bit};
-ghost use Rattle.graph.specs.Update.{from_sum};
-ghost use Rattle.sheet_theory.specs.Layout.{most_vertices, Shape, count_at};
-ghost use Rattle.edit_counts.specs.Internal.{Ready, to_factor, from_factor, with_factors, with_multiple, counts_from_edited, counts_by, counts_edited};
+ghost use Rattle.std.specs.Prelude.{◌≡◌, ◌≤◌, ◌<◌, ◌^◌, length, replicate};
+ghost use Rattle.sheet_theory.specs.Layout.{most_vertices, Shape};
+ghost use Rattle.edit_counts.specs.Internal.{to_factor, from_factor, with_factors, sum_at, with_multiple, counts_from_edited, counts_by, counts_edited};
 
-use sheet::Sheet;
+pub mod edges;
+
+pub use edges::EdgesAt;
+use sheet::{Sheet, View};
+use word::Bits;
 
 // What T is multiplied by: x for an insertion, f less x for a deletion, modulo 2^64.
 fn to_factor(inserts: bool, x: u64, f: u64) -> u64
@@ -32,129 +34,112 @@ fn from_factor(inserts: bool, t: u64, y: u64) -> u64
     word::wrapping_sub(0, y)
 }
 
-// The first n words of u: at each j, what F is multiplied by in the counts to j.
+// At each j below n, what F is multiplied by in the counts to j.
 fn from_factors(
     inserts: bool,
-    n: usize,
-    sheet: &[u64],
+    sheet: View,
     v: usize,
     t: &[u64; Sheet::VERTICES],
-    u: &mut [u64; Sheet::VERTICES],
-)
-    requires { (Shape n sheet.now) × (v < n) }
-    ensures { u.new ≡ with_factors inserts n sheet.now v t.now u.old }
+) -> [u64; Sheet::VERTICES]
+    requires { v < sheet.n }
+    ensures { result ≡ with_factors inserts sheet.entry.n sheet.entry.words.now v t.now (replicate most_vertices 0) }
 {
-    let base = sheet::layout::counts_from(n, v);
-    let mut j = 0;
-    while j < n {
-        u[j] = from_factor(inserts, t[j], sheet[base + j]);
-        j += 1;
+    let mut u = [0u64; Sheet::VERTICES];
+    for (j, y) in sheet.counts_from(v).iter().enumerate() {
+        u[j] = from_factor(inserts, t[j], *y);
     }
+    u
 }
 
-// The sum of the counts from i to the vertices of the mask, modulo 2^64.
-fn sum_from(n: usize, sheet: &[u64], i: usize, mask: u64) -> u64
-    requires { (Shape n sheet.now) × (i < n) × (mask < 2 ^ n) }
-    ensures { result ≡ from_sum n (count_at n sheet.now) (bit mask) i % 2 ^ 64 }
+// The sum of the words at the places of the mask, modulo 2^64.
+fn sum_at(words: &[u64], mask: u64) -> u64
+    requires { mask < 2 ^ length words.now }
+    ensures { result ≡ sum_at (length words.now) words.now mask }
 {
-    let base = sheet::layout::counts_from(n, i);
     let mut sum = 0;
-    let mut rest = mask;
-    while rest != 0 {
-        let k = word::lowest_bit(rest);
-        sum = word::wrapping_add(sum, sheet[base + k]);
-        rest = word::clear_lowest(rest);
+    for k in Bits::of(mask) {
+        sum = word::wrapping_add(sum, words[k]);
     }
     sum
 }
 
-// x times t, added to the n words from base on, modulo 2^64. Nothing is written where x is 0.
-fn add_multiple(n: usize, sheet: &mut [u64], base: usize, x: u64, t: &[u64; Sheet::VERTICES])
-    requires { (n ≤ most_vertices) × (base + n ≤ length sheet.old) }
-    ensures { sheet.new ≡ with_multiple n sheet.old base x t.now }
+// x times t, added to the words at the same places, modulo 2^64. Nothing is written where x is 0.
+fn add_multiple(words: &mut [u64], x: u64, t: &[u64; Sheet::VERTICES])
+    requires { length words.old ≤ most_vertices }
+    ensures { words.new ≡ with_multiple (length words.old) words.old x t.now }
 {
     if x == 0 {
         return;
     }
-    let mut j = 0;
-    while j < n {
-        sheet[base + j] = word::wrapping_add(sheet[base + j], word::wrapping_mul(x, t[j]));
-        j += 1;
+    for j in 0..words.len() {
+        words[j] = word::wrapping_add(words[j], word::wrapping_mul(x, t[j]));
     }
 }
 
-// Every count by T alone, where there are no predecessors and each F is 0. The counts from a vertex begin at base.
-fn edit_to(inserts: bool, n: usize, sheet: &mut [u64], v: usize, t: &[u64; Sheet::VERTICES])
-    requires { (Shape n sheet.old) × (v < n) }
-    ensures { sheet.new ≡ counts_by inserts n sheet.old v 0 t.now }
-{
-    let end = sheet::layout::counts_end(n);
-    let mut base = n;
-    while base < end {
-        let x = sheet[base + v];
-        add_multiple(n, sheet, base, to_factor(inserts, x, 0), t);
-        base += n;
+impl EdgesAt {
+    // Every count by T alone, where there are no predecessors and each F is 0.
+    fn edit_to(self, sheet: &mut [u64], t: &[u64; Sheet::VERTICES])
+        requires { Shape self.n sheet.old }
+        ensures { sheet.new ≡ counts_by self.inserts self.n sheet.old self.v 0 t.now }
+    {
+        for i in 0..self.n {
+            let from = sheet::layout::counts_from(self.n, i);
+            let counts = &mut sheet[from..from + self.n];
+            let x = counts[self.v];
+            add_multiple(counts, to_factor(self.inserts, x, 0), t);
+        }
     }
-}
 
-// The counts from i. u has what F is multiplied by.
-fn edit_counts_from(
-    inserts: bool,
-    n: usize,
-    sheet: &mut [u64],
-    i: usize,
-    v: usize,
-    predecessors: u64,
-    t: &[u64; Sheet::VERTICES],
-    u: &[u64; Sheet::VERTICES],
-)
-    requires { (Shape n sheet.old) × (i < n) × (v < n) × (predecessors < 2 ^ n) }
-    ensures { sheet.new ≡ counts_from_edited inserts n sheet.old i v predecessors t.now u.now }
-{
-    let base = sheet::layout::counts_from(n, i);
-    let x = sheet[base + v];
-    let f = sum_from(n, sheet, i, predecessors);
-    add_multiple(n, sheet, base, to_factor(inserts, x, f), t);
-    add_multiple(n, sheet, base, f, u);
-}
-
-// Every count by both sums.
-fn edit_both(
-    inserts: bool,
-    n: usize,
-    sheet: &mut [u64],
-    v: usize,
-    predecessors: u64,
-    t: &[u64; Sheet::VERTICES],
-)
-    requires { (Shape n sheet.old) × (v < n) × (predecessors < 2 ^ n) }
-    ensures { sheet.new ≡ counts_by inserts n sheet.old v predecessors t.now }
-{
-    let mut u = [0u64; Sheet::VERTICES];
-    from_factors(inserts, n, sheet, v, t, &mut u);
-    let mut i = 0;
-    while i < n {
-        edit_counts_from(inserts, n, sheet, i, v, predecessors, t, &u);
-        i += 1;
+    // The counts from one vertex. u has what F is multiplied by.
+    fn edit_counts_from(
+        self,
+        counts: &mut [u64],
+        t: &[u64; Sheet::VERTICES],
+        u: &[u64; Sheet::VERTICES],
+    )
+        requires { (self.n ≤ most_vertices) × (length counts.old ≡ self.n) }
+        ensures { counts.new ≡ counts_from_edited self.inserts self.n counts.old self.v self.predecessors t.now u.now }
+    {
+        let x = counts[self.v];
+        let f = sum_at(counts, self.predecessors);
+        add_multiple(counts, to_factor(self.inserts, x, f), t);
+        add_multiple(counts, f, u);
     }
-}
 
-// Internal: every count as the edit leaves it. Without predecessors neither F nor u is worked out.
-pub fn edit_counts(
-    inserts: bool,
-    n: usize,
-    sheet: &mut [u64],
-    v: usize,
-    predecessors: u64,
-    successors: u64,
-)
-    requires { Ready n sheet.old v predecessors successors }
-    ensures { sheet.new ≡ counts_edited inserts n sheet.old v predecessors successors }
-{
-    let sums = sheet::words::sum_counts(n, sheet, successors);
-    if predecessors == 0 {
-        edit_to(inserts, n, sheet, v, &sums);
-        return;
+    // Every count by both sums.
+    fn edit_both(self, sheet: &mut [u64], t: &[u64; Sheet::VERTICES])
+        requires { Shape self.n sheet.old }
+        ensures { sheet.new ≡ counts_by self.inserts self.n sheet.old self.v self.predecessors t.now }
+    {
+        let u = from_factors(
+            self.inserts,
+            View {
+                n: self.n,
+                words: sheet,
+            },
+            self.v,
+            t,
+        );
+        for i in 0..self.n {
+            let from = sheet::layout::counts_from(self.n, i);
+            self.edit_counts_from(&mut sheet[from..from + self.n], t, &u);
+        }
     }
-    edit_both(inserts, n, sheet, v, predecessors, &sums);
+
+    // Internal: every count as the edit leaves it. Without predecessors neither F nor u is worked out.
+    pub fn edit_counts(self, sheet: &mut [u64])
+        requires { Shape self.n sheet.old }
+        ensures { sheet.new ≡ counts_edited self.inserts self.n sheet.old self.v self.predecessors self.successors }
+    {
+        let lent = View {
+            n: self.n,
+            words: sheet,
+        };
+        let sums = lent.sum_counts(self.successors);
+        if self.predecessors == 0 {
+            self.edit_to(sheet, &sums);
+            return;
+        }
+        self.edit_both(sheet, &sums);
+    }
 }

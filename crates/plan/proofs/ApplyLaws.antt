@@ -5,12 +5,15 @@ use Prim.Native.Nat.{ℕ, suc, ◌+◌, ◌/◌, ◌%◌, ◌≤◌}
 use native.Mathlib.Omega.{arith}
 use lib.ListN.{length, get_or}
 use lib.Seq.{ext_get_or}
-use Rattle.std.proofs.Common.{Option, Some, None}
+use Rattle.std.proofs.Common.{Option, Some, None, Result, Ok, Err}
 use Rattle.record.specs.declared.Record.{Record}
 use Rattle.record.specs.declared.Record.TheVariants.{Insert, Delete}
 use Rattle.record.specs.Reader.{records_from}
 use Rattle.answer.specs.declared.Answer.{Answer}
-use Rattle.answer.specs.Answers.{answer, decided}
+use Rattle.answer.specs.declared.Refusal.{Refusal}
+use Rattle.answer.specs.declared.RefusedAt.{RefusedAt}
+use Rattle.answer.specs.Answers.{answer, decided, number_of_refusal, number_of, answer_of, number_at, place_at, refused_at}
+use Rattle.answer.proofs.OutcomeLaws.{refusal_some}
 use Rattle.sheet_theory.specs.Layout.{most_vertices, size, Shape, set_bits}
 use Rattle.sheet_theory.specs.Lent.{Lent, lent}
 use Rattle.sheet_theory.proofs.LayoutLaws.{size_le}
@@ -26,6 +29,10 @@ use Rattle.plan_theory.proofs.RecordsLaws.{records_length, records_given}
 use Rattle.plan_theory.proofs.AppliedLaws.{applied_place, applied_next, applied_here}
 
 -- ---- one record
+
+pub number_answered : (o : Result ℕ Refusal) (r : Answer) → answer_of o ≡ r → number_of o ≡ r.number
+number_answered (Ok v) r e = ap (λ (x : Answer). x.number) e
+number_answered (Err f) r e = ap (λ (x : Answer). x.number) e
 
 -- a record that is refused leaves every word
 left_refused : (n : ℕ) (s : Lent) (x : Option Record) → ¬ (number_on n s x ≡ 0) → left_by n s x ≡ s
@@ -48,51 +55,60 @@ module _ (n : ℕ) (s : Lent) (plan : List ℕ) where
 
   module _ (rest : List (Option Record)) (k : ℕ) (t : Lent) (was : Applying n s plan rest k t) where
     -- nothing is left
-    pub applying_end : rest ≡ [] → (r : Answer) → r ≡ answer 0 0 0 → Reached (applied_plan n s plan) r t
+    pub applying_end : rest ≡ [] → {A : Type 0} (o : Result A RefusedAt) → number_at o ≡ 0 → place_at o ≡ 0 → Reached (applied_plan n s plan) o t
     unfolding applied
-    applying_end none r er =
+    applying_end none o eo ep =
         let f : applied_plan n s plan ≡ record { number = 0; place = 0; left = t } = was.goes_on ∙ ap (λ (l : List (Option Record)). applied n l t (suc k)) none in
-        record { answered = er ∙ ap (λ (p : Applied). answer p.number p.place 0) (sym f); left = ap (λ (p : Applied). p.left) (sym f) }
+        record {
+          number = eo ∙ ap (λ (p : Applied). p.number) (sym f);
+          place = ep ∙ ap (λ (p : Applied). p.place) (sym f);
+          left = ap (λ (p : Applied). p.left) (sym f);
+        }
 
-    -- x is the next record, and l is what those after it say; j is what its edit answered, and u what it left
-    module _ (x : Option Record) (l : List (Option Record)) (more : rest ≡ x ∷ l) (j : ℕ) (u : Lent) (ej : j ≡ number_on n t x) (eu : u ≡ left_by n t x) where
+    -- x is the next record, l is what those after it say, and u what it left
+    module _ (x : Option Record) (l : List (Option Record)) (more : rest ≡ x ∷ l) (u : Lent) (eu : u ≡ left_by n t x) where
       opens : applied_plan n s plan ≡ applied n (x ∷ l) t (suc k)
       opens = was.goes_on ∙ ap (λ (m : List (Option Record)). applied n m t (suc k)) more
 
-      pub applying_refused : (j ≡ 0 → ⊥) → (i : ℕ) → i ≡ k → Reached (applied_plan n s plan) (answer j (i + 1) 0) u
-      applying_refused d i ei =
-          let one : suc k ≡ i + 1 = omega arith in
-          let f = opens ∙ applied_here n x l t (suc k) (λ z. d (ej ∙ z)) in
+      pub applying_refused : {A : Type 0} (e : Refusal) → number_of_refusal e ≡ number_on n t x → (i : ℕ) → i ≡ k
+          → Reached {A = A} (applied_plan n s plan) (Err (refused_at e (i + 1))) u
+      applying_refused e ee i ei =
+          let d : ¬ (number_on n t x ≡ 0) = λ z. refusal_some e (ee ∙ z) in
+          let f = opens ∙ applied_here n x l t (suc k) d in
+          let one : i + 1 ≡ suc k = omega arith in
           record {
-            answered = ap₂ (λ (a b : ℕ). answer a b 0) ej (sym one) ∙ ap (λ (p : Applied). answer p.number p.place 0) (sym f);
-            left = eu ∙ left_refused n t x (λ z. d (ej ∙ z)) ∙ ap (λ (p : Applied). p.left) (sym f);
+            number = ee ∙ ap (λ (p : Applied). p.number) (sym f);
+            place = one ∙ ap (λ (p : Applied). p.place) (sym f);
+            left = eu ∙ left_refused n t x d ∙ ap (λ (p : Applied). p.left) (sym f);
           }
 
-      pub applying_more : j ≡ 0 → (i : ℕ) → i ≡ k + 1 → Applying n s plan l i u
+      pub applying_more : 0 ≡ number_on n t x → (i : ℕ) → i ≡ k + 1 → Applying n s plan l i u
       applying_more z i ei =
           let one : i ≡ suc k = omega arith in
-          rw (one, eu) record { within = omega (arith, was.within, ap length more); goes_on = opens ∙ applied_next n x l t (suc k) (sym ej ∙ z) }
+          rw (one, eu) record { within = omega (arith, was.within, ap length more); goes_on = opens ∙ applied_next n x l t (suc k) (sym z) }
 
 -- a sheet has at most the words of the greatest
 pub sheet_long : (n : ℕ) (s : List ℕ) → Shape n s → length s ≤ size most_vertices
 sheet_long n s h = omega (arith, h.long, size_le n h.high)
 
--- ---- apply_core: a is what the records answered, and t what they left
+-- ---- apply_core: o is the outcome of the records, and t what they left
 
-module _ (n : ℕ) (s plan : List ℕ) (a : Answer) (t : List ℕ) (h : Reached (applied_plan n (lent s) plan) a (lent t)) where
+module _ {A : Type 0} (n : ℕ) (s plan : List ℕ) (o : Result A RefusedAt) (t : List ℕ) (h : Reached (applied_plan n (lent s) plan) o (lent t)) where
   abbrev reached : Applied
   reached = applied_plan n (lent s) plan
 
-  reached_number : a.number ≡ reached.number
-  reached_number = ap (λ (x : Answer). x.number) h.answered
-
   -- the words kept aside are those of s, and put back they are s
-  pub all_refused : (a.number ≡ 0 → ⊥) → (z kept u : List ℕ) (m : ℕ) → m ≡ length s → length s ≤ length z
-      → kept ≡ over z 0 (λ (j : ℕ). get_or s j 0) m → length t ≡ length s → u ≡ over t 0 (λ (j : ℕ). get_or kept j 0) m → AppliedAll n (lent s) plan a (lent u)
-  all_refused d z kept u m em w ek et eu = record {
-    answered = h.answered ∙ ap (answer reached.number reached.place) (sym (decided_old reached.number _ 0 (λ q. d (reached_number ∙ q))));
-    left = ap lent back ∙ sym (decided_old a.number _ (lent s) d);
-  }
+  pub all_refused : (e : RefusedAt) → o ≡ Err e → (z kept u : List ℕ) (m : ℕ) → m ≡ length s → length s ≤ length z
+      → kept ≡ over z 0 (λ (j : ℕ). get_or s j 0) m → length t ≡ length s → u ≡ over t 0 (λ (j : ℕ). get_or kept j 0) m
+      → AppliedAll n (lent s) plan (answer (number_of_refusal e.refusal) e.place 0) (lent u)
+  all_refused e eo z kept u m em w ek et eu =
+      let some : ¬ (number_of_refusal e.refusal ≡ 0) = refusal_some e.refusal in
+      let en : number_of_refusal e.refusal ≡ reached.number = ap number_at (sym eo) ∙ h.number in
+      let ep : e.place ≡ reached.place = ap place_at (sym eo) ∙ h.place in
+      record {
+        answered = ap₂ (λ (x y : ℕ). answer x y 0) en ep ∙ ap (answer reached.number reached.place) (sym (decided_old reached.number _ 0 (λ q. some (en ∙ q))));
+        left = ap lent back ∙ sym (decided_old (number_of_refusal e.refusal) _ (lent s) some);
+      }
     where
       back : u ≡ s
       back =
@@ -100,11 +116,11 @@ module _ (n : ℕ) (s plan : List ℕ) (a : Answer) (t : List ℕ) (h : Reached 
           ext_get_or 0 u s long
           (λ k q. over_front t u _ m k eu (omega arith) (omega arith) ∙ over_front z kept _ m k ek (omega arith) (omega arith))
 
-  pub all_accepted : a.number ≡ 0 → (v : ℕ) → v ≡ set_bits n t → (r : Answer) → r ≡ answer 0 0 v → AppliedAll n (lent s) plan r (lent t)
-  all_accepted z v ev r er =
-      let en : reached.number ≡ 0 = sym reached_number ∙ z in
+  pub all_accepted : number_at o ≡ 0 → (v : ℕ) → v ≡ set_bits n t → AppliedAll n (lent s) plan (answer 0 0 v) (lent t)
+  all_accepted z v ev =
+      let en : reached.number ≡ 0 = sym h.number ∙ z in
       record {
-        answered = er ∙ (ap (answer 0 0) (ev ∙ ap (λ (x : Lent). set_bits n x.words) h.left)
-            ∙ sym (ap₂ (λ (x y : ℕ). answer x y (decided x (set_bits n reached.left.words) 0)) en (applied_place n (records plan) (lent s) 1 en)));
-        left = h.left ∙ ap (λ (x : Answer). decided x.number reached.left (lent s)) (sym er);
+        answered = ap (answer 0 0) (ev ∙ ap (λ (x : Lent). set_bits n x.words) h.left)
+            ∙ sym (ap₂ (λ (x y : ℕ). answer x y (decided x (set_bits n reached.left.words) 0)) en (applied_place n (records plan) (lent s) 1 en));
+        left = h.left;
       }

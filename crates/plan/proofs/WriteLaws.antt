@@ -23,10 +23,6 @@ edge_one : (s : Lent) (i j : ℕ) → edge_at s.words i j ≡ 1 → edge_bytes s
 unfolding edge_bytes
 edge_one s i j e = rw e refl
 
-pub edge_put : (i j : ℕ) (b plan : List ℕ) (at : ℕ) (l : List ℕ) (r : ℕ) → b ≡ encoded insert_letter i j → Put plan at b l r
-    → Put plan at (encoded insert_letter i j) l r
-edge_put i j b plan at l r e p = rw (← e) p
-
 -- of the edges from i, for whose records there is room in a buffer from the place at on, those to the vertices that are gone from rest are
 -- put, which has made l of it; r is the place after them
 abbrev pub Writing : ℕ → Lent → ℕ → List ℕ → ℕ → ℕ → List ℕ → ℕ → Type 0

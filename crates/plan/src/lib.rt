@@ -2,11 +2,13 @@
 // file answer every n, every length, all words and all bytes.
 #![tactic(auto)]
 
+ghost use Rattle.answer.specs.Answers.{answer_of, answer_at};
 ghost use Rattle.sheet_theory.specs.Lent.{lent};
 ghost use Rattle.plan_theory.specs.Calls.{ReadPlan, WritePlan};
 
+use answer::RefusedAt;
 use record::Record;
-use sheet::{Answer, Refusal};
+use sheet::{Answer, Refusal, View};
 
 pub mod apply;
 mod check;
@@ -21,10 +23,14 @@ pub const MOST_BYTES: usize = 32768;
 pub fn read_plan(n: usize, sheet: &mut [u64], plan: &[u8]) -> Answer
     ensures read { ReadPlan n (lent sheet.old) plan.now result (lent sheet.new) }
 {
-    let number = check::read_number(n, sheet, plan);
-    if number != 0 {
-        return Answer::refused(number);
-    }
+    apply_plan(n, sheet, plan).into()
+}
+
+// The work of `read_plan`.
+fn apply_plan(n: usize, sheet: &mut [u64], plan: &[u8]) -> Result<u64, RefusedAt>
+    ensures { ReadPlan n (lent sheet.old) plan.now (answer_at result) (lent sheet.new) }
+{
+    check::check_plan(n, sheet, plan)?;
     apply::apply_core(n, sheet, plan)
 }
 
@@ -33,14 +39,19 @@ pub fn read_plan(n: usize, sheet: &mut [u64], plan: &[u8]) -> Answer
 pub fn write_plan(n: usize, sheet: &[u64], plan: &mut [u8]) -> Answer
     ensures written { WritePlan n (lent sheet.now) plan.old result plan.new }
 {
-    let number = recount::sheet_number(n, sheet);
-    if number != 0 {
-        return Answer::refused(number);
-    }
-    let bytes = Record::BYTES as u64 * sheet::words::count_set_bits(n, sheet);
+    write_edges(n, sheet, plan).into()
+}
+
+// The work of `write_plan`.
+fn write_edges(n: usize, sheet: &[u64], plan: &mut [u8]) -> Result<u64, Refusal>
+    ensures { WritePlan n (lent sheet.now) plan.old (answer_of result) plan.new }
+{
+    let sheet = View::of(n, sheet)?;
+    recount::check_valid(sheet)?;
+    let bytes = Record::BYTES as u64 * sheet.set_bits();
     if (plan.len() as u64) < bytes {
-        return Answer::refused(Numbers::BUFFER);
+        return Err(Refusal::Buffer);
     }
-    write::write_rows(n, sheet, plan);
-    Answer::accepted(bytes)
+    write::write_rows(sheet, plan);
+    Ok(bytes)
 }

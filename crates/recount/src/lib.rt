@@ -73,9 +73,9 @@ fn is_valid(sheet: View) -> bool
         return false;
     };
     if sheet.n < count_blocks::COLUMNS {
-        return vertex_counts::all_counts_hold(sheet.n, sheet.words);
+        return vertex_counts::all_counts_hold(sheet);
     }
-    count_blocks::blocks_hold(sheet.n, sheet.words, &order)
+    count_blocks::blocks_hold(sheet, &order)
 }
 
 // The work of `validate`.

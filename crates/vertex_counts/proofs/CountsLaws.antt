@@ -1,24 +1,24 @@
 -- The laws of the counts that the recurrence gives, and of words compared and written. Assumes nothing.
-use mathlib.Core.Path.{◌≡◌, refl, sym, ap, ◌∙◌}
-use mathlib.Core.Bool.{Bool, true, false, true≢false, not}
+use mathlib.Core.Path.{◌≡◌, sym, ap, ◌∙◌}
+use mathlib.Core.Bool.{Bool}
 use mathlib.Core.List.{List}
 use Prim.Native.Nat.{ℕ, ◌+◌, ◌%◌, ◌^◌, ◌≤◌, ◌<◌}
 use native.Mathlib.Nat.{zero-add}
 use native.Mathlib.Decide.{ℕ_discrete}
 use native.Mathlib.Omega.{arith}
-use borrow.Author.Tests.{eqb-true, eq-eqb, not-true}
+use borrow.Author.Tests.{eqb-true, eq-eqb}
 use lib.Bits.{bit_or, bit_xor, and_le_l, and_le_r, xor_add_and, xor_self}
 use lib.Dec.{eqb}
-use lib.ListN.{get_or, set, length-set}
+use lib.ListN.{length, get_or, set, length-set}
 use lib.Seq.{get_or-set_same, get_or-set_other}
 use Rattle.sums.proofs.SumLaws.{delta_refl, delta_diff}
 use Rattle.word.proofs.MaskLaws.{or_zero}
 use Rattle.answer.specs.Table.{Reflects}
 use Rattle.sheet_theory.specs.Layout.{row_at}
 use Rattle.sheet.specs.Fill.{over}
-use Rattle.sheet.specs.Internal.{CountsFrom, CountsSummed, with_counts}
+use Rattle.sheet.specs.Internal.{CountsFrom, CountsOf, CountsSummed, with_counts}
 use Rattle.sheet_theory.specs.Internal.{successors_sum, CountsHold}
-use Rattle.sheet.proofs.WordsLaws.{base_count, counts_written}
+use Rattle.sheet.proofs.WordsLaws.{counts_written}
 use Rattle.vertex_counts.specs.Internal.{SuccessorsSummed, SameWords}
 
 -- ---- the counts that the recurrence gives
@@ -41,47 +41,28 @@ successors_summed n s t i r small hi was e =
 xor_zero : (a b : ℕ) → bit_xor a b ≡ 0 → a ≡ b
 xor_zero a b e = omega (arith, xor_add_and a b, and_le_l a b, and_le_r a b)
 
-module _ (s : List ℕ) (base : ℕ) (t : List ℕ) where
-  pub same_none : Reflects (eqb 0 0) (SameWords 0 s base t)
-  same_none = record { holds = λ e j h. absurd (omega arith); shows = λ h. refl }
-
+module _ (s t : List ℕ) where
   -- d is 0 exactly if the first j words agree
-  pub same_more : (j d : ℕ) → Reflects (eqb d 0) (SameWords j s base t)
-      → Reflects (eqb (bit_or d (bit_xor (get_or s (base + j) 0) (get_or t j 0))) 0) (SameWords (j + 1) s base t)
+  pub same_more : (j d : ℕ) → Reflects (eqb d 0) (SameWords j s t) → Reflects (eqb (bit_or d (bit_xor (get_or s j 0) (get_or t j 0))) 0) (SameWords (j + 1) s t)
   same_more j d was =
       record {
         holds = λ e k l.
-            let z = or_zero d (bit_xor (get_or s (base + j) 0) (get_or t j 0)) (eqb-true _ _ e) in
+            let z = or_zero d (bit_xor (get_or s j 0) (get_or t j 0)) (eqb-true _ _ e) in
             elim (ℕ_discrete k j) [
-              | yes p ↦ rw p (xor_zero (get_or s (base + j) 0) (get_or t j 0) z.1)
+              | yes p ↦ rw p (xor_zero (get_or s j 0) (get_or t j 0) z.1)
               | no q ↦ was.holds (eq-eqb d 0 z.0) k (omega (arith, q))
             ];
         shows = λ h. rw (h j (omega arith), xor_self (get_or t j 0), eqb-true d 0 (was.shows (λ k l. h k (omega arith))));
       }
 
-  pub same_done : (j n d : ℕ) → Reflects (eqb d 0) (SameWords j s base t) → j ≡ n → Reflects (eqb d 0) (SameWords n s base t)
-  same_done j n d was e = rw e at was
-
--- the counts from i satisfy the recurrence exactly if they are those that it gives
-pub holds_same : (n : ℕ) (s t : List ℕ) (i base : ℕ) (r : Bool) → CountsFrom n i base → SuccessorsSummed n s i t → Reflects r (SameWords n s base t)
+-- the counts from i, which l has, satisfy the recurrence exactly if they are those that it gives
+pub holds_same : (n : ℕ) (s l t : List ℕ) (i : ℕ) (r : Bool) → CountsOf n s i l → SuccessorsSummed n s i t → Reflects r (SameWords (length l) l t)
     → Reflects r (CountsHold n s i)
-holds_same n s t i base r at summed same =
+holds_same n s l t i r of summed same =
     record {
-      holds = λ e j h. sym (base_count n s i base at j) ∙ same.holds e j h ∙ summed.sums j h;
-      shows = λ h. same.shows (λ j l. base_count n s i base at j ∙ h j l ∙ sym (summed.sums j l));
+      holds = λ e j h. sym (of.counts j h) ∙ same.holds e j (omega (arith, of.long)) ∙ summed.sums j h;
+      shows = λ h. same.shows (λ j q. of.counts j (omega (arith, of.long)) ∙ h j (omega (arith, of.long)) ∙ sym (summed.sums j (omega (arith, of.long))));
     }
-
--- a test of each i below n, one after the other: the first that fails, and the end
-module _ (P : ℕ → Type 0) (n i : ℕ) where
-  pub each_fails : (t : Bool) → Reflects t (P i) → not t ≡ true → i < n → Reflects false ((k : ℕ) → k < n → P k)
-  each_fails t r e h =
-      record {
-        holds = λ z. absurd (true≢false (sym z));
-        shows = λ all. sym (not-true t e) ∙ r.shows (all i h);
-      }
-
-  pub each_holds : ((k : ℕ) → k < i → P k) → i ≡ n → Reflects true ((k : ℕ) → k < n → P k)
-  each_holds all e = record { holds = λ z. rw e at all; shows = λ z. refl }
 
 -- ---- the counts from a vertex written
 

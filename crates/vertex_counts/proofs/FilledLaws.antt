@@ -15,7 +15,7 @@ use Rattle.word.specs.Bit.{bit}
 use Rattle.graph.specs.Count.{path_count}
 use Rattle.graph.proofs.Recurrence.{path_count_recurrence, path_count_cong}
 use Rattle.sheet_theory.specs.Layout.{counts_end, Shape, row_at, count_at, edge_at}
-use Rattle.sheet_theory.specs.Internal.{successors_sum, RowsBelow}
+use Rattle.sheet_theory.specs.Internal.{successors_sum}
 use Rattle.sheet_theory.proofs.LayoutLaws.{row_counts, from_within, redone_ext}
 use Rattle.sheet.specs.Internal.{with_counts}
 use Rattle.sheet.proofs.WordsLaws.{counts_long, counts_in, counts_out, counts_stay}
@@ -34,9 +34,6 @@ pub record Filled (n : ℕ) (s : List ℕ) (v : ℕ → ℕ) (c w k : ℕ) (t : 
   pub rest : (k : ℕ) → counts_end n ≤ k → get_or t k 0 ≡ get_or s k 0
 
 module _ (n : ℕ) (s l : List ℕ) (h : Ordered n s l) (shape : Shape n s) (c w : ℕ) (within : c + w ≤ n) where
-  pub filled_start : Filled n s (vertex_at l) c w 0 s
-  filled_start = record { long = refl; rows = λ i q. refl; done = λ m q. absurd (omega arith); kept = λ i j hi hj q. refl; rest = λ k q. refl }
-
   -- ---- one vertex more
 
   module _ (t u : List ℕ) (k : ℕ) (hk : k < n) (f : Filled n s (vertex_at l) c w k t) (r : u ≡ with_counts n t (vertex_at l k) c w (successors_sum n t (vertex_at l k))) where
@@ -94,28 +91,18 @@ module _ (n : ℕ) (s l : List ℕ) (h : Ordered n s l) (shape : Shape n s) (c w
     rest = f.rest;
   }
 
--- the rows stay, and with them the shape, the order and what the edges lead to
-module _ (n : ℕ) (s t : List ℕ) (long : length t ≡ length s) (rows : (i : ℕ) → i < n → row_at t i ≡ row_at s i) where
-  pub same_shape : Shape n s → Shape n t
-  same_shape shape = record { low = shape.low; high = shape.high; long = long ∙ shape.long }
-
-  pub same_below : RowsBelow n s → RowsBelow n t
-  same_below below i hi = rw (rows i hi) (below i hi)
-
-  pub same_ordered : (l : List ℕ) → Ordered n s l → Ordered n t l
-  same_ordered l h = record {
-    long = h.long;
-    order = record {
-      vertex = h.order.vertex;
-      earlier = λ m q b hb e. h.order.earlier m q b hb (subst (λ (x : ℕ). 0 < bit x b) (rows _ (h.order.vertex m q)) e);
-    };
-    all = h.all;
-  }
+-- the rows stay, and with them the order and what the edges lead to
+pub same_ordered : (n : ℕ) (s t : List ℕ) → length t ≡ length s → ((i : ℕ) → i < n → row_at t i ≡ row_at s i) → (l : List ℕ) → Ordered n s l → Ordered n t l
+same_ordered n s t long rows l h = record {
+  long = h.long;
+  order = record {
+    vertex = h.order.vertex;
+    earlier = λ m q b hb e. h.order.earlier m q b hb (subst (λ (x : ℕ). 0 < bit x b) (rows _ (h.order.vertex m q)) e);
+  };
+  all = h.all;
+}
 
 -- ---- columns after columns
-
-pub columns_none : (n : ℕ) (s : List ℕ) → ColumnsFilled n s 0 0 s
-columns_none n s = record { long = refl; rows = λ i q. refl; filled = λ i j hi hj lo q. absurd (omega arith); kept = λ i j hi hj q. refl; rest = λ k q. refl }
 
 -- those below c, and then those from a on, among which are all the next after c
 pub columns_more : (n : ℕ) (s t u : List ℕ) (c a w : ℕ) → ColumnsFilled n s 0 c t → ColumnsFilled n t a w u → a ≤ c

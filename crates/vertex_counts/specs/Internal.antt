@@ -10,9 +10,9 @@ pub record SuccessorsSummed (n : ℕ) (s : List ℕ) (i : ℕ) (t : List ℕ) : 
   pub long : length t ≡ most_vertices
   pub sums : (j : ℕ) → j < n → get_or t j 0 ≡ successors_sum n s i j
 
--- the n words of s from base on are those of t
-abbrev pub SameWords : ℕ → List ℕ → ℕ → List ℕ → Type 0
-SameWords n s base t = (j : ℕ) → j < n → get_or s (base + j) 0 ≡ get_or t j 0
+-- the first n words of s are those of t
+abbrev pub SameWords : ℕ → List ℕ → List ℕ → Type 0
+SameWords n s t = (j : ℕ) → j < n → get_or s j 0 ≡ get_or t j 0
 
 -- t is s with each count to the w columns from c on worked out from the rows, modulo 2 ^ 64
 pub record ColumnsFilled (n : ℕ) (s : List ℕ) (c w : ℕ) (t : List ℕ) : Type 0 where

@@ -8,11 +8,17 @@ loop-k-init c =
     let first = c.enumerate-k-items.ensures.count in
     applying_start _ _ _ c.requires _ (cc) _ (cc)
 
-pub returns-then-number-ne0 : goal.returns-then-number-ne0
-returns-then-number-ne0 c = let given = c.in-Some.ensures.steps in search applying_refused
+pub returns-in-Err : goal.returns-in-Err
+returns-in-Err c =
+    let given = c.in-Some.ensures.steps in
+    let told = c.in-Err.ensures.number in
+    search applying_refused
 
 pub loop-k-preserved : goal.loop-k-preserved
-loop-k-preserved c = let given = c.in-Some.ensures.steps in search applying_more
+loop-k-preserved c =
+    let given = c.in-Some.ensures.steps in
+    let told = c.in_default.ensures.number in
+    search applying_more
 
 pub returns : goal.returns
 returns c = let given = c.in-None.ensures.steps in search applying_end

@@ -1,0 +1,13 @@
+-- `edit_counts::EdgesAt::edit_to` meets its contract: a turn is a law of EditedCounts. Assumes nothing.
+use Rattle.std.proofs.Common.{refl, arith}
+use Rattle.edit_counts.proofs.EditedCounts.{editing_lent, edited_alone, editing_more, editing_all}
+use Rattle.edit_counts.proofs.edges.EdgesAt.edit_to.Goals as goal
+
+pub loop-i-preserved : goal.loop-i-preserved
+loop-i-preserved c =
+    let lent = editing_lent _ _ _ _ _ _ c.requires _ _ c.loop-i.invariant (omega arith) _ c.counts_from-from.ensures in
+    editing_more _ _ _ _ _ _ c.requires _ _ c.loop-i.invariant (omega arith) _ c.counts_from-from.ensures _ _
+    (edited_alone _ _ _ _ _ _ _ _ c.args.self.vertex lent _ _ _ refl c.to_factor.ensures lent.long c.add_multiple.ensures)
+
+pub returns : goal.returns
+returns c = editing_all _ _ _ _ _ _ _ _ c.loop-i.invariant (omega arith)
