@@ -99,8 +99,8 @@ impl EdgesAt {
         requires { (self.n ≤ most_vertices) × (length counts.old ≡ self.n) }
         ensures { counts.new ≡ counts_from_edited self.inserts self.n counts.old self.v self.predecessors t.now u.now }
     {
-        let x = counts[self.v];
         let f = sum_at(counts, self.predecessors);
+        let x = counts[self.v];
         add_multiple(counts, to_factor(self.inserts, x, f), t);
         add_multiple(counts, f, u);
     }
