@@ -4,7 +4,7 @@
 // x T + F (T + y) to the count from i to j, and a deletion (F - x) T + F (-y).
 #![tactic(auto)]
 
-ghost use Rattle.std.specs.Prelude.{◌≡◌, ◌≤◌, ◌<◌, ◌^◌, length, replicate};
+ghost use Rattle.std.specs.Prelude.{◌≡◌, ◌≤◌, ◌<◌, ◌^◌, length};
 ghost use Rattle.sheet_theory.specs.Layout.{most_vertices, Shape};
 ghost use Rattle.edit_counts.specs.Internal.{to_factor, from_factor, with_factors, sum_at, with_multiple, counts_from_edited, counts_by, counts_edited};
 
@@ -12,7 +12,7 @@ pub mod edges;
 
 pub use edges::EdgesAt;
 use sheet::{Sheet, View};
-use word::Bits;
+use word::{Bits, Plus};
 
 // What T is multiplied by: x for an insertion, f less x for a deletion, modulo 2^64.
 fn to_factor(inserts: bool, x: u64, f: u64) -> u64
@@ -34,21 +34,20 @@ fn from_factor(inserts: bool, t: u64, y: u64) -> u64
     word::wrapping_sub(0, y)
 }
 
-// At each j below n, what F is multiplied by in the counts to j.
+// The first n words of u: at each j, what F is multiplied by in the counts to j.
 fn from_factors(
     inserts: bool,
     sheet: View,
     v: usize,
     t: &[u64; Sheet::VERTICES],
-) -> [u64; Sheet::VERTICES]
+    u: &mut [u64; Sheet::VERTICES],
+)
     requires { v < sheet.n }
-    ensures { result ≡ with_factors inserts sheet.entry.n sheet.entry.words.now v t.now (replicate most_vertices 0) }
+    ensures { u.new ≡ with_factors inserts sheet.entry.n sheet.entry.words.now v t.now u.old }
 {
-    let mut u = [0u64; Sheet::VERTICES];
     for (j, y) in sheet.counts_from(v).iter().enumerate() {
         u[j] = from_factor(inserts, t[j], *y);
     }
-    u
 }
 
 // The sum of the words at the places of the mask, modulo 2^64.
@@ -100,8 +99,8 @@ impl EdgesAt {
         requires { (self.n ≤ most_vertices) × (length counts.old ≡ self.n) }
         ensures { counts.new ≡ counts_from_edited self.inserts self.n counts.old self.v self.predecessors t.now u.now }
     {
-        let x = counts[self.v];
         let f = sum_at(counts, self.predecessors);
+        let x = counts[self.v];
         add_multiple(counts, to_factor(self.inserts, x, f), t);
         add_multiple(counts, f, u);
     }
@@ -111,15 +110,12 @@ impl EdgesAt {
         requires { Shape self.n sheet.old }
         ensures { sheet.new ≡ counts_by self.inserts self.n sheet.old self.v self.predecessors t.now }
     {
-        let u = from_factors(
-            self.inserts,
-            View {
-                n: self.n,
-                words: sheet,
-            },
-            self.v,
-            t,
-        );
+        let lent = View {
+            n: self.n,
+            words: sheet,
+        };
+        let mut u = [0u64; Sheet::VERTICES];
+        from_factors(self.inserts, lent, self.v, t, &mut u);
         for i in 0..self.n {
             let from = sheet::layout::counts_from(self.n, i);
             self.edit_counts_from(&mut sheet[from..from + self.n], t, &u);
@@ -135,7 +131,8 @@ impl EdgesAt {
             n: self.n,
             words: sheet,
         };
-        let sums = lent.sum_counts(self.successors);
+        let mut sums = [0u64; Sheet::VERTICES];
+        lent.combine_counts::<Plus>(0, self.n, self.successors, &mut sums);
         if self.predecessors == 0 {
             self.edit_to(sheet, &sums);
             return;
