@@ -1,59 +1,57 @@
--- The product, and the ways out of `unrank` and `rank`: m and k are what their checks gave. Assumes nothing.
-use mathlib.Core.Path.{◌≡◌, refl, sym, ap, ap₂, ◌∙◌}
-use mathlib.Core.Logic.{inl, inr}
-use mathlib.Core.List.{List}
-use Prim.Native.Nat.{ℕ, ◌*◌, ◌%◌, ◌^◌, ◌≤◌}
-use native.Mathlib.Omega.{arith}
-use lib.ListN.{length, take}
-use Rattle.text.specs.Text.{written}
-use Rattle.answer.specs.declared.Answer.{Answer}
-use Rattle.answer.specs.Table.{First}
-use Rattle.answer.specs.Answers.{answer}
-use Rattle.sheet_theory.specs.Lent.{Lent}
-use Rattle.answer.proofs.TableLaws.{first_more}
+-- The ways out of the calls: what their checks past that of the sheet found, and the walk written to the buffer. Assumes nothing.
+use mir.Val.{bool_byte}
+use Rattle.std.proofs.Common.{◌≡◌, inl, inr, Option, Some, None, MatchOption, Ok, Err, ok_or, Bool, true, false, not, cond, eqb, ℕ, List, [], ◌++◌, length, refl, ap, ap₂, ◌∙◌, arith}
+use Rattle.answer.specs.declared.Refusal.{Refusal}
+use Rattle.answer.specs.Table.{Conditions, First}
+use Rattle.answer.specs.Answers.{number_of_refusal}
 use Rattle.answer.proofs.ByNumber.{first_after}
-use Rattle.answer.proofs.AnswerLaws.{refused_as, accepted_as}
-use Rattle.query_theory.specs.Unrank.{walk, walk_conditions, unrank_conditions, unrank_answer, unrank_after}
-use Rattle.query_theory.specs.Rank.{rank_conditions, path_rank, rank_answer}
-use Rattle.query_theory.proofs.Refusals.{unrank_first, rank_first}
-use Rattle.query.specs.Internal.{before_walk, WalkKept}
-use Rattle.query.proofs.AsideLaws.{aside_taken}
+use Rattle.answer.proofs.OutcomeLaws.{refused_more}
+use Rattle.sheet_theory.specs.Layout.{count_at}
+use Rattle.sheet_theory.specs.Lent.{Lent}
+use Rattle.sheet_theory.specs.Conditions.{sized}
+use Rattle.sheet_theory.proofs.ShapeLaws.{shape_passed, accepted_shape}
+use Rattle.query_theory.specs.ReachesWithout.{product, reaches_without}
+use Rattle.query_theory.specs.Unrank.{walk, walk_conditions, unrank_conditions}
+use Rattle.query.specs.Internal.{before_walk, IsWalk}
 
--- ---- product
+-- of a sheet with the shape the number is that of the further conditions
+pub past_shape : (n : ℕ) (s : Lent) (cs : Conditions) (k : ℕ) → First (sized n s []) 0 → First cs k → First (sized n s cs) k
+past_shape n s cs k f g = shape_passed n s (accepted_shape n s [] f) cs k g
 
-pub product_cong : (a b c d r : ℕ) → a ≡ c → b ≡ d → r ≡ a * b % 2 ^ 64 → r ≡ c * d % 2 ^ 64
-product_cong a b c d r p q e = e ∙ ap₂ (λ (x y : ℕ). x * y % 2 ^ 64) p q
+-- ---- reaches_without: x is the product, c the count, r whether they differ
 
--- ---- unrank: c vertices of the walk are kept in l
+differ : (b : Bool) → bool_byte (not b) ≡ cond b 0 1
+differ true = refl
+differ false = refl
 
-module _ (n : ℕ) (s : Lent) (i j k : ℕ) (p : List ℕ) (m : ℕ) (f : First (before_walk n s i j k (length p)) m) (r : Answer) where
-  -- what is refused, by the number x
-  refused : (x : ℕ) → First (unrank_conditions n s i j k (length p)) x → (x ≡ 0 → ⊥) → r ≡ answer x 0 0
-      → (r ≡ unrank_answer n s i j k (length p)) × (p ≡ unrank_after n s i j k p)
-  refused x g = refused_as (unrank_conditions n s i j k (length p)) x _ g (unrank_first n s i j k (length p)) (written (walk n s.words i j k) p) p _ r
+pub without_value : (n : ℕ) (s : Lent) (i j u v x c r : ℕ) → x ≡ product n s.words i j u v → c ≡ count_at n s.words i j → r ≡ bool_byte (not (eqb x c))
+    → r ≡ reaches_without n s i j u v
+unfolding reaches_without
+without_value n s i j u v x c r ex ec er = er ∙ differ (eqb x c) ∙ ap₂ (λ (a b : ℕ). cond (eqb a b) 0 1) ex ec
 
-  pub unrank_stops : (m ≡ 0 → ⊥) → r ≡ answer m 0 0 → (r ≡ unrank_answer n s i j k (length p)) × (p ≡ unrank_after n s i j k p)
-  unrank_stops d = refused m (first_more (before_walk n s i j k (length p)) (walk_conditions n s i j k) m f d) d
+-- ---- what a lookup that may find nothing answers as an outcome, where x stands for nothing
 
-  module _ (z : m ≡ 0) (c : ℕ) (l : List ℕ) (kept : WalkKept n s.words i j k c l) where
-    past : (x : ℕ) → First (walk_conditions n s i j k) x → First (unrank_conditions n s i j k (length p)) x
-    past x = first_after (before_walk n s i j k (length p)) (walk_conditions n s i j k) m x refl f z
+pub found_none : {A : Type 0} (w : Option A) (x e : Refusal) (P : Type 0) (Q : A → Type 0) → MatchOption w P Q → ok_or w x ≡ Err e → P × (e ≡ x)
+found_none None x e P Q m q = (m, grind arith)
+found_none (Some a) x e P Q m q = absurd (grind arith)
 
-    pub unrank_astray : c ≡ 0 → r ≡ answer 9 0 0 → (r ≡ unrank_answer n s i j k (length p)) × (p ≡ unrank_after n s i j k p)
-    unrank_astray e = refused 9 (past 9 (inl (sym kept.kept ∙ ap (λ (x : ℕ). take x l) e, refl))) (λ q. omega (arith, q))
+pub found_some : {A : Type 0} (w : Option A) (x : Refusal) (a : A) (P : Type 0) (Q : A → Type 0) → MatchOption w P Q → ok_or w x ≡ Ok a → Q a
+found_some None x a P Q m q = absurd (grind arith)
+found_some (Some b) x a P Q m q = grind arith
 
-    pub unrank_arrived : (c ≡ 0 → ⊥) → n ≤ 64 → (q : List ℕ) → r ≡ answer 0 0 c → q ≡ written (take c l) p
-        → (r ≡ unrank_answer n s i j k (length p)) × (q ≡ unrank_after n s i j k p)
-    unrank_arrived d high q er eq =
-        let many : length (walk n s.words i j k) ≡ c = ap length (sym kept.kept) ∙ aside_taken kept high in
-        accepted_as (unrank_conditions n s i j k (length p)) 0 _ (past 0 (inr ((λ e. d (sym many ∙ ap length e)), refl))) (unrank_first n s i j k (length p)) _ p q _ r refl
-        (er ∙ ap (answer 0 0) (sym many)) (eq ∙ ap (λ (x : List ℕ). written x p) kept.kept)
+-- ---- unrank: what is looked for before the walk, and past it
 
--- ---- rank
+pub walk_refused : (n : ℕ) (s : Lent) (i j k len : ℕ) → First (sized n s []) 0 → (e : Refusal) → First (before_walk n s i j k len) (number_of_refusal e)
+    → First (unrank_conditions n s i j k len) (number_of_refusal e)
+walk_refused n s i j k len f e g =
+    past_shape n s (before_walk n s i j k len ++ walk_conditions n s i j k) _ f (refused_more (before_walk n s i j k len) (walk_conditions n s i j k) e g)
 
-module _ (n : ℕ) (s : Lent) (p : List ℕ) (k : ℕ) (f : First (rank_conditions n s p) k) (r : Answer) where
-  pub rank_stops : (k ≡ 0 → ⊥) → r ≡ answer k 0 0 → r ≡ rank_answer n s p
-  rank_stops d er = (refused_as (rank_conditions n s p) k _ f (rank_first n s p) s s _ r d er).0
+module _ (n : ℕ) (s : Lent) (i j k len : ℕ) (f : First (sized n s []) 0) (g : First (before_walk n s i j k len) 0) where
+  past_checks : (x : ℕ) → First (walk_conditions n s i j k) x → First (unrank_conditions n s i j k len) x
+  past_checks x h = past_shape n s (before_walk n s i j k len ++ walk_conditions n s i j k) x f (first_after (before_walk n s i j k len) (walk_conditions n s i j k) 0 x refl g refl h)
 
-  pub rank_accepted : (x : ℕ) → k ≡ 0 → x ≡ path_rank n s.words p % 2 ^ 64 → r ≡ answer 0 0 x → r ≡ rank_answer n s p
-  rank_accepted x z ex er = (accepted_as (rank_conditions n s p) k _ f (rank_first n s p) s s s _ r z (er ∙ ap (answer 0 0) ex) refl).0
+  pub walk_astray : walk n s.words i j k ≡ [] → First (unrank_conditions n s i j k len) 9
+  walk_astray e = past_checks 9 (inl (e, refl))
+
+  pub walk_arrived : (l : List ℕ) → IsWalk n s.words i j k l → First (unrank_conditions n s i j k len) 0
+  walk_arrived l w = past_checks 0 (inr ((λ e. omega (arith, w.some, ap length (w.is ∙ e))), refl))

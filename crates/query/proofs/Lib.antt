@@ -1,4 +1,3 @@
-pub mod CheckLaws
 pub mod CallLaws
 pub mod PathLaws
 pub mod PassedLaws

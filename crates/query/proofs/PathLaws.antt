@@ -1,22 +1,13 @@
--- The laws of a given path, read from its first byte on: what is found up to the byte reached, and what is left from there. t is the
--- byte reached. Assumes nothing.
-use mathlib.Core.Path.{◌≡◌, refl, sym, ap, ◌∙◌}
-use mathlib.Core.Logic.{◌⊎◌, inl, inr, ◌↔◌}
-use mathlib.Core.Bool.{Bool, true, false}
-use mathlib.Core.List.{List, [], ◌∷◌}
-use Prim.Native.Nat.{ℕ, zero, suc, ◌+◌, ◌-◌, ◌≤◌, ◌<◌}
+-- The laws of a given path, read by its places: what is found up to the place t, and what is left from there. Assumes nothing.
+use Rattle.std.proofs.Common.{◌≡◌, ◌⊎◌, inl, inr, ◌↔◌, Bool, true, false, ℕ, zero, suc, ◌+◌, ◌-◌, ◌≤◌, ◌<◌, List, [], ◌∷◌, length, get_or, drop, refl, sym, ap, ◌∙◌, drop-cons, arith}
 use native.Mathlib.Nat.{lt_of_not-le}
-use native.Mathlib.Omega.{arith}
-use lib.ListN.{length, get_or, drop}
-use lib.Seq.{drop-cons, drop-length}
+use lib.Seq.{drop-length}
 use Rattle.word.specs.Bit.{has_bit}
 use Rattle.word.proofs.BitLaws.{has_true, has_false}
 use Rattle.answer.specs.Table.{Reflects}
 use Rattle.answer.proofs.TableLaws.{reflects_true, reflects_none}
 use Rattle.sheet_theory.specs.Layout.{row_at, edge_at}
-use Rattle.sheet_theory.specs.Conditions.{NoVertex}
 use Rattle.query_theory.specs.Rank.{SomeNoVertex, Gap, Broken}
-use Rattle.query_theory.proofs.Refusals.{no_vertex_cons}
 use Rattle.query.specs.Internal.{Vertices}
 
 -- ---- what is left of a list from a place on
@@ -35,24 +26,6 @@ module _ (p : List ℕ) (t : ℕ) where
   pub drop_last : 1 ≤ t → length p ≡ t → drop (t - 1) p ≡ get_or p (t - 1) 0 ∷ []
   drop_last l e = drop_both l (omega arith) ∙ ap (λ (q : List ℕ). get_or p (t - 1) 0 ∷ q) (drop_none e)
 
--- ---- has_no_vertex
-
-module _ (n : ℕ) (p : List ℕ) (t : ℕ) (left : SomeNoVertex n p ↔ SomeNoVertex n (drop t p)) where
-  vertex_here : t < length p → (NoVertex n (get_or p t 0) ⊎ SomeNoVertex n (drop (t + 1) p)) ↔ SomeNoVertex n (drop t p)
-  vertex_here h = rw (drop_here p t h) (no_vertex_cons n (get_or p t 0) (drop (t + 1) p))
-
-  pub vertex_found : t < length p → n ≤ get_or p t 0 → Reflects true (SomeNoVertex n p)
-  vertex_found h l = reflects_true (left.1 ((vertex_here h).0 (inl l)))
-
-  pub vertex_more : t < length p → get_or p t 0 < n → SomeNoVertex n p ↔ SomeNoVertex n (drop (t + 1) p)
-  vertex_more h l = (
-    λ q. elim ((vertex_here h).1 (left.0 q)) [ inl m ↦ absurd (omega arith) | inr m ↦ m ],
-    λ q. left.1 ((vertex_here h).0 (inr q)),
-  )
-
-  pub vertex_none : length p ≡ t → Reflects false (SomeNoVertex n p)
-  vertex_none e = reflects_none (λ q. let m : SomeNoVertex n [] = rw (drop_none p t e) at (left.0 q) in m.1)
-
 -- where none is found, each byte is a vertex
 pub vertices_of : (n : ℕ) (p : List ℕ) → ¬ (SomeNoVertex n p) → Vertices n p
 vertices_of n [] d t h = absurd (omega arith)
@@ -62,12 +35,6 @@ vertices_of n (x ∷ p) d (suc t) h = vertices_of n p (λ q. d (q.0, inr q.1, q.
 -- ---- is_broken: b is whether the edge from the byte before to the byte reached is there
 
 module _ (n : ℕ) (s p : List ℕ) where
-  pub broken_none : length p ≡ 0 → Reflects true (Broken n s p)
-  broken_none e = reflects_true (inl e)
-
-  pub broken_long : n < length p → Reflects true (Broken n s p)
-  broken_long h = reflects_true (inr (inl h))
-
   module _ (t : ℕ) (left : Gap s p ↔ Gap s (drop (t - 1) p)) (low : 1 ≤ t) where
     module _ (h : t < length p) where
       gap_here : ((edge_at s (get_or p (t - 1) 0) (get_or p t 0) ≡ 0) ⊎ Gap s (drop t p)) ↔ Gap s (drop (t - 1) p)

@@ -3,26 +3,24 @@
 #![tactic(auto)]
 
 ghost use Rattle.std.specs.Prelude.{◌≡◌, ◌<◌, length};
-ghost use Rattle.sheet_theory.specs.Layout.{Shape};
+ghost use Rattle.answer.specs.Answers.{answer_of};
 ghost use Rattle.sheet_theory.specs.Lent.{lent};
 ghost use Rattle.query_theory.specs.ReachesWithout.{product, reaches_without_answer};
 ghost use Rattle.query_theory.specs.Unrank.{unrank_answer, unrank_after};
 ghost use Rattle.query_theory.specs.Rank.{rank_answer};
 
-use sheet::{Answer, Refusal, Sheet, layout};
+use sheet::{Answer, Refusal, Sheet, View};
 
 mod checks;
 mod passed;
 mod walk;
 
 // The product of the counts to an edge and from it, modulo 2^64; on a valid sheet, the number of paths that use the edge.
-fn product(n: usize, sheet: &[u64], from: usize, to: usize, edge_from: usize, edge_to: usize) -> u64
-    requires { (Shape n sheet.now) × (from < n) × (to < n) × (edge_from < n) × (edge_to < n) }
-    ensures { result ≡ product n sheet.now from to edge_from edge_to }
+fn product(sheet: View, from: usize, to: usize, edge_from: usize, edge_to: usize) -> u64
+    requires { (from < sheet.n) × (to < sheet.n) × (edge_from < sheet.n) × (edge_to < sheet.n) }
+    ensures { result ≡ product sheet.entry.n sheet.entry.words.now from to edge_from edge_to }
 {
-    let before = layout::count_at(n, sheet, from, edge_from);
-    let after = layout::count_at(n, sheet, edge_to, to);
-    word::wrapping_mul(before, after)
+    word::wrapping_mul(sheet.count(from, edge_from), sheet.count(edge_to, to))
 }
 
 // Whether the product of the counts to an edge and from it differs from the count between two vertices; on a valid sheet, whether
@@ -38,14 +36,24 @@ pub fn reaches_without(
 ) -> Answer
     ensures answer { result ≡ reaches_without_answer n (lent sheet.now) from to edge_from edge_to }
 {
-    let number = checks::without_number(n, sheet, from, to, edge_from, edge_to);
-    if number != 0 {
-        return Answer::refused(number);
-    }
-    if product(n, sheet, from, to, edge_from, edge_to) == layout::count_at(n, sheet, from, to) {
-        return Answer::accepted(0);
-    }
-    Answer::accepted(1)
+    product_differs(n, sheet, from, to, edge_from, edge_to).into()
+}
+
+// The work of `reaches_without`.
+fn product_differs(
+    n: usize,
+    sheet: &[u64],
+    from: usize,
+    to: usize,
+    edge_from: usize,
+    edge_to: usize,
+) -> Result<u64, Refusal>
+    ensures { answer_of result ≡ reaches_without_answer n (lent sheet.now) from to edge_from edge_to }
+{
+    let sheet = View::of(n, sheet)?;
+    checks::without(sheet, from, to, edge_from, edge_to)?;
+    let product = product(sheet, from, to, edge_from, edge_to);
+    Ok(u64::from(product != sheet.count(from, to)))
 }
 
 // The walk from one vertex to another by the rank k, written to the first bytes of `path`, one byte a vertex (document 01: a
@@ -55,17 +63,27 @@ pub fn unrank(n: usize, sheet: &[u64], from: usize, to: usize, k: u64, path: &mu
     ensures answer { result ≡ unrank_answer n (lent sheet.now) from to k (length path.old) }
     ensures bytes { path.new ≡ unrank_after n (lent sheet.now) from to k path.old }
 {
-    let number = checks::walk_number(n, sheet, from, to, k, path.len());
-    if number != 0 {
-        return Answer::refused(number);
-    }
+    write_walk(n, sheet, from, to, k, path).into()
+}
+
+// The work of `unrank`.
+fn write_walk(
+    n: usize,
+    sheet: &[u64],
+    from: usize,
+    to: usize,
+    k: u64,
+    path: &mut [u8],
+) -> Result<u64, Refusal>
+    ensures answer { answer_of result ≡ unrank_answer n (lent sheet.now) from to k (length path.old) }
+    ensures bytes { path.new ≡ unrank_after n (lent sheet.now) from to k path.old }
+{
+    let sheet = View::of(n, sheet)?;
+    checks::before_walk(sheet, from, to, k, path.len())?;
     let mut aside = [0u8; Sheet::VERTICES];
-    let count = walk::walk_aside(n, sheet, from, to, k, &mut aside);
-    if count == 0 {
-        return Answer::refused(Numbers::NOT_VALID);
-    }
-    text::put(path, 0, &aside[..count]);
-    Answer::accepted(count as u64)
+    let walk = walk::walk_aside(sheet, from, to, k, &mut aside).ok_or(Refusal::NotValid)?;
+    path[..walk.len()].copy_from_slice(walk);
+    Ok(walk.len() as u64)
 }
 
 // The counts passed over on a path, one byte a vertex, added up (document 01: the number of a route); on a valid sheet, of a path
@@ -73,9 +91,14 @@ pub fn unrank(n: usize, sheet: &[u64], from: usize, to: usize, k: u64, path: &mu
 pub fn rank(n: usize, sheet: &[u64], path: &[u8]) -> Answer
     ensures answer { result ≡ rank_answer n (lent sheet.now) path.now }
 {
-    let number = checks::rank_number(n, sheet, path);
-    if number != 0 {
-        return Answer::refused(number);
-    }
-    Answer::accepted(passed::path_rank(n, sheet, path))
+    rank_of_path(n, sheet, path).into()
+}
+
+// The work of `rank`.
+fn rank_of_path(n: usize, sheet: &[u64], path: &[u8]) -> Result<u64, Refusal>
+    ensures { answer_of result ≡ rank_answer n (lent sheet.now) path.now }
+{
+    let sheet = View::of(n, sheet)?;
+    checks::path(sheet, path)?;
+    Ok(passed::path_rank(sheet, path))
 }

@@ -1,66 +1,58 @@
 // The walk by a rank: from each vertex its edges are tried in ascending order, and the counts passed over are taken off.
-ghost use Rattle.std.specs.Prelude.{◌≡◌, ◌<◌, length};
-ghost use Rattle.sheet_theory.specs.Layout.{most_vertices, Shape};
-ghost use Rattle.query.specs.Internal.{Stepped, WalkKept};
+ghost use Rattle.std.specs.Prelude.{◌≡◌, ◌<◌, MatchOption, [], length};
+ghost use Rattle.query_theory.specs.Unrank.{walk};
+ghost use Rattle.query.specs.Internal.{Stepped, IsWalk};
 
-use sheet::{Sheet, layout};
+use sheet::{Sheet, View};
+use word::Bits;
 
 // Where a walk goes next, and what is left of the rank.
-#[derive(Drop)]
+#[derive(Clone, Copy)]
 struct Next {
     vertex: usize,
     left: u64,
 }
 
-// The step from vertex i of a walk to a vertex by the rank k; to n, if no edge fits.
-fn step(n: usize, sheet: &[u64], i: usize, to: usize, k: u64) -> Next
-    requires { (Shape n sheet.now) × (i < n) × (to < n) }
-    ensures { Stepped n sheet.now i to k result }
+// The step from vertex i of a walk to a vertex by the rank k, if an edge fits.
+fn step(sheet: View, i: usize, to: usize, k: u64) -> Option<Next>
+    requires { (i < sheet.n) × (to < sheet.n) }
+    ensures { Stepped sheet.entry.n sheet.entry.words.now i to k result }
 {
     let mut left = k;
-    let mut rest = sheet[i] & word::low_bits(n);
-    while rest != 0 {
-        let b = word::lowest_bit(rest);
-        let count = layout::count_at(n, sheet, b, to);
+    for b in Bits::of(sheet.row(i) & word::low_bits(sheet.n)) {
+        let count = sheet.count(b, to);
         if left < count {
-            return Next { vertex: b, left };
+            return Some(Next { vertex: b, left });
         }
         left -= count;
-        rest = word::clear_lowest(rest);
     }
-    Next { vertex: n, left }
+    None
 }
 
-// The walk, written to `aside`: how many vertices it has, and 0 if it does not arrive with the rank at 0.
-pub(crate) fn walk_aside(
-    n: usize,
-    sheet: &[u64],
+// The walk, written to `aside`, if it arrives with the rank at 0.
+pub(crate) fn walk_aside<'a>(
+    sheet: View,
     from: usize,
     to: usize,
     k: u64,
-    aside: &mut [u8; Sheet::VERTICES],
-) -> usize
-    requires { (Shape n sheet.now) × (from < n) × (to < n) × (length aside.old ≡ most_vertices) }
-    ensures { WalkKept n sheet.now from to k result aside.new }
+    aside: &'a mut [u8; Sheet::VERTICES],
+) -> Option<&'a [u8]>
+    requires { (from < sheet.n) × (to < sheet.n) }
+    ensures { MatchOption result (walk sheet.entry.n sheet.entry.words.now from to k ≡ []) (λ l. IsWalk sheet.entry.n sheet.entry.words.now from to k l.now) }
 {
     let mut at = from;
     let mut left = k;
-    let mut count = 0;
-    while count < n {
+    for count in 0..sheet.n {
         aside[count] = at as u8;
-        count += 1;
         if at == to {
             if left == 0 {
-                return count;
+                return Some(&aside[..count + 1]);
             }
-            return 0;
+            return None;
         }
-        let next = step(n, sheet, at, to, left);
-        if next.vertex == n {
-            return 0;
-        }
+        let next = step(sheet, at, to, left)?;
         at = next.vertex;
         left = next.left;
     }
-    0
+    None
 }

@@ -8,14 +8,11 @@ use Rattle.answer.specs.Table.{First}
 use Rattle.answer.specs.Answers.{answer}
 use Rattle.sheet_theory.specs.Layout.{count_at}
 use Rattle.sheet_theory.specs.Lent.{Lent}
-use Rattle.answer.proofs.AnswerLaws.{refused_as, accepted_as}
+use Rattle.answer.proofs.AnswerLaws.{accepted_as}
 use Rattle.query_theory.specs.ReachesWithout.{reaches_without_conditions, product, reaches_without, reaches_without_answer}
 use Rattle.query_theory.proofs.Refusals.{reaches_without_first}
 
 module _ (n : ℕ) (s : Lent) (i j u v k : ℕ) (f : First (reaches_without_conditions n s i j u v) k) where
-  pub without_refused : (k ≡ 0 → ⊥) → (r : Answer) → r ≡ answer k 0 0 → r ≡ reaches_without_answer n s i j u v
-  without_refused d r er = (refused_as (reaches_without_conditions n s i j u v) k _ f (reaches_without_first n s i j u v) s s _ r d er).0
-
   module _ (z : k ≡ 0) (x c : ℕ) (ex : x ≡ product n s.words i j u v) (ec : c ≡ count_at n s.words i j) where
     accepted : (r : Answer) → r ≡ answer 0 0 (reaches_without n s i j u v) → r ≡ reaches_without_answer n s i j u v
     accepted r er = (accepted_as (reaches_without_conditions n s i j u v) k _ f (reaches_without_first n s i j u v) s s s _ r z er refl).0
