@@ -1,5 +1,5 @@
 // The paths of a graph, listed: each comes from `query::unrank`, and `query::rank` has to give its rank back.
-use crate::graph::Graph;
+use crate::built::Graph;
 use sheet::{Refusal, Sheet};
 use std::{fmt, io};
 

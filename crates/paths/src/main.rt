@@ -4,11 +4,11 @@
 // 65,536 bytes or more is not taken.
 #![tactic(auto)]
 
-mod graph;
+mod built;
 mod list;
 mod record;
 
-use graph::Graph;
+use built::Graph;
 use sheet::Sheet;
 use std::io;
 
