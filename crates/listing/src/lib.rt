@@ -5,7 +5,7 @@ ghost use Rattle.std.specs.Prelude.{◌≡◌, length, replicate};
 ghost use Rattle.text.specs.Text.{written};
 ghost use Rattle.listing_theory.specs.Listing.{listing, input_bytes};
 
-use sheet::Sheet;
+use sheet::{Sheet, View};
 
 mod digits;
 mod lines;
@@ -34,8 +34,11 @@ pub fn list(plan: &[u8], out: &mut [u8; Listing::BYTES]) -> usize
     ensures count { result ≡ length (listing plan.now) }
     ensures bytes { out.new ≡ written (listing plan.now) out.old }
 {
-    let sheet = Sheet::new();
-    let mut words = sheet.words;
-    let answer = plan::read_plan(Sheet::VERTICES, &mut words, plan);
-    lines::write(answer, &words, out)
+    let mut sheet = Sheet::new();
+    let answer = plan::read_plan(Sheet::VERTICES, &mut sheet.words, plan);
+    let read = View {
+        n: Sheet::VERTICES,
+        words: &sheet.words,
+    };
+    lines::write(answer, read, out)
 }

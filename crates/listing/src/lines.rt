@@ -1,12 +1,13 @@
-// The lines of a listing.
-ghost use Rattle.std.specs.Prelude.{◌++◌, ◌+◌, ◌≤◌, ◌<◌, length};
+// The lines of a listing, put into a buffer from a place on. The two go side by side: a struct of both would hold the `&mut`, and each
+// contract would have to say that it keeps its reference; and `io::Write` for a slice promises how many bytes it puts, but not which.
+ghost use Rattle.std.specs.Prelude.{◌≡◌, ◌++◌, ◌+◌, ◌≤◌, ◌<◌, length};
 ghost use Rattle.text.specs.Text.{Put};
-ghost use Rattle.sheet_theory.specs.Layout.{most_vertices, Shape};
+ghost use Rattle.sheet_theory.specs.Layout.{most_vertices};
 ghost use Rattle.sheet_theory.specs.Lent.{lent};
 ghost use Rattle.listing_theory.specs.Lines.{decimal, pipes_line, refused_line, count_line, pair_line, lines_from, count_lines, printed, most_listed};
 
 use crate::digits;
-use sheet::{Answer, Sheet, layout};
+use sheet::{Answer, Sheet, View};
 
 // A label and a decimal.
 fn put_labelled(out: &mut [u8], at: usize, label: &[u8], x: u64) -> usize
@@ -54,11 +55,11 @@ fn put_count(i: usize, j: usize, count: u64, out: &mut [u8], at: usize) -> usize
 }
 
 // The line of i and j, if they differ and have a count above 0.
-fn put_pair(sheet: &[u64], i: usize, j: usize, out: &mut [u8], at: usize) -> usize
-    requires { (Shape most_vertices sheet.now) × (i < most_vertices) × (j < most_vertices) × (at + length (pair_line sheet.now i j) ≤ length out.old) }
-    ensures { Put out.old at (pair_line sheet.now i j) out.new result }
+fn put_pair(sheet: View, i: usize, j: usize, out: &mut [u8], at: usize) -> usize
+    requires { (sheet.n ≡ most_vertices) × (i < most_vertices) × (j < most_vertices) × (at + length (pair_line sheet.words.now i j) ≤ length out.old) }
+    ensures { Put out.old at (pair_line sheet.entry.words.now i j) out.new result }
 {
-    let count = layout::count_at(Sheet::VERTICES, sheet, i, j);
+    let count = sheet.count(i, j);
     if i == j || count == 0 {
         return at;
     }
@@ -66,41 +67,36 @@ fn put_pair(sheet: &[u64], i: usize, j: usize, out: &mut [u8], at: usize) -> usi
 }
 
 // The lines of i.
-fn put_lines_from(sheet: &[u64], i: usize, out: &mut [u8], at: usize) -> usize
-    requires { (Shape most_vertices sheet.now) × (i < most_vertices) × (at + length (lines_from sheet.now i) ≤ length out.old) }
-    ensures { Put out.old at (lines_from sheet.now i) out.new result }
+fn put_lines_from(sheet: View, i: usize, out: &mut [u8], at: usize) -> usize
+    requires { (sheet.n ≡ most_vertices) × (i < most_vertices) × (at + length (lines_from sheet.words.now i) ≤ length out.old) }
+    ensures { Put out.old at (lines_from sheet.entry.words.now i) out.new result }
 {
     let mut place = at;
-    let mut j = 0;
-    while j < Sheet::VERTICES {
+    for j in 0..Sheet::VERTICES {
         place = put_pair(sheet, i, j, out, place);
-        j += 1;
     }
     place
 }
 
 // The lines of all vertices.
-fn put_lines(sheet: &[u64], out: &mut [u8], at: usize) -> usize
-    requires { (Shape most_vertices sheet.now) × (at + length (count_lines sheet.now) ≤ length out.old) }
-    ensures { Put out.old at (count_lines sheet.now) out.new result }
+fn put_lines(sheet: View, out: &mut [u8], at: usize) -> usize
+    requires { (sheet.n ≡ most_vertices) × (at + length (count_lines sheet.words.now) ≤ length out.old) }
+    ensures { Put out.old at (count_lines sheet.entry.words.now) out.new result }
 {
     let mut place = at;
-    let mut i = 0;
-    while i < Sheet::VERTICES {
+    for i in 0..Sheet::VERTICES {
         place = put_lines_from(sheet, i, out, place);
-        i += 1;
     }
     place
 }
 
 // What is printed of a plan that is answered so and has left the sheet, in the first places: how many bytes it has.
-pub(crate) fn write(answer: Answer, sheet: &[u64], out: &mut [u8]) -> usize
-    requires { (Shape most_vertices sheet.now) × (most_listed ≤ length out.old) }
-    ensures { Put out.old 0 (printed answer (lent sheet.now)) out.new result }
+pub(crate) fn write(answer: Answer, sheet: View, out: &mut [u8]) -> usize
+    requires { (sheet.n ≡ most_vertices) × (most_listed ≤ length out.old) }
+    ensures { Put out.old 0 (printed answer (lent sheet.entry.words.now)) out.new result }
 {
-    let number = answer.number;
-    if number != 0 {
-        return put_refused(out, 0, answer.place, number);
+    if answer.number != 0 {
+        return put_refused(out, 0, answer.place, answer.number);
     }
     let first = put_pipes(out, 0, answer.value);
     put_lines(sheet, out, first)

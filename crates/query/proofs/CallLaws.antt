@@ -1,17 +1,20 @@
 -- The ways out of the calls: what their checks past that of the sheet found, and the walk written to the buffer. Assumes nothing.
 use mir.Val.{bool_byte}
-use Rattle.std.proofs.Common.{◌≡◌, inl, inr, Option, Some, None, MatchOption, Ok, Err, ok_or, Bool, true, false, not, cond, eqb, ℕ, List, [], ◌++◌, length, refl, ap, ap₂, ◌∙◌, arith}
+use Rattle.std.proofs.Common.{◌≡◌, inl, inr, Option, Some, None, MatchOption, Result, Ok, Err, ok_or, Bool, true, false, not, cond, eqb, ℕ, List, [], ◌++◌, length, refl, ap, ap₂, ◌∙◌, arith}
+use Rattle.text.specs.Text.{written}
 use Rattle.answer.specs.declared.Refusal.{Refusal}
+use Rattle.answer.specs.declared.Refusal.TheVariants.{NotValid}
 use Rattle.answer.specs.Table.{Conditions, First}
-use Rattle.answer.specs.Answers.{number_of_refusal}
+use Rattle.answer.specs.Answers.{answer, number_of_refusal, answer_of}
 use Rattle.answer.proofs.ByNumber.{first_after}
-use Rattle.answer.proofs.OutcomeLaws.{refused_more}
+use Rattle.answer.proofs.OutcomeLaws.{refusal_some, refused_more, refused_with, refused_leaves, accepted_with, accepted_leaves}
 use Rattle.sheet_theory.specs.Layout.{count_at}
 use Rattle.sheet_theory.specs.Lent.{Lent}
 use Rattle.sheet_theory.specs.Conditions.{sized}
-use Rattle.sheet_theory.proofs.ShapeLaws.{shape_passed, accepted_shape}
+use Rattle.sheet_theory.proofs.ShapeLaws.{shape_passed, shape_refused, accepted_shape}
 use Rattle.query_theory.specs.ReachesWithout.{product, reaches_without}
-use Rattle.query_theory.specs.Unrank.{walk, walk_conditions, unrank_conditions}
+use Rattle.query_theory.specs.Unrank.{walk, walk_conditions, unrank_conditions, unrank_answer, unrank_after}
+use Rattle.query_theory.proofs.Refusals.{unrank_first}
 use Rattle.query.specs.Internal.{before_walk, IsWalk}
 
 -- of a sheet with the shape the number is that of the further conditions
@@ -39,19 +42,47 @@ pub found_some : {A : Type 0} (w : Option A) (x : Refusal) (a : A) (P : Type 0) 
 found_some None x a P Q m q = absurd (grind arith)
 found_some (Some b) x a P Q m q = grind arith
 
--- ---- unrank: what is looked for before the walk, and past it
+-- ---- unrank of the buffer p: what is refused leaves it, and an accepted walk stands in its first places
 
-pub walk_refused : (n : ℕ) (s : Lent) (i j k len : ℕ) → First (sized n s []) 0 → (e : Refusal) → First (before_walk n s i j k len) (number_of_refusal e)
-    → First (unrank_conditions n s i j k len) (number_of_refusal e)
-walk_refused n s i j k len f e g =
-    past_shape n s (before_walk n s i j k len ++ walk_conditions n s i j k) _ f (refused_more (before_walk n s i j k len) (walk_conditions n s i j k) e g)
+module _ (n : ℕ) (s : Lent) (i j k : ℕ) (p : List ℕ) where
+  abbrev conditions : Conditions
+  conditions = unrank_conditions n s i j k (length p)
 
-module _ (n : ℕ) (s : Lent) (i j k len : ℕ) (f : First (sized n s []) 0) (g : First (before_walk n s i j k len) 0) where
-  past_checks : (x : ℕ) → First (walk_conditions n s i j k) x → First (unrank_conditions n s i j k len) x
-  past_checks x h = past_shape n s (before_walk n s i j k len ++ walk_conditions n s i j k) x f (first_after (before_walk n s i j k len) (walk_conditions n s i j k) 0 x refl g refl h)
+  unrank_refused : (o : Result ℕ Refusal) (e : Refusal) → o ≡ Err e → First conditions (number_of_refusal e)
+      → (answer_of o ≡ unrank_answer n s i j k (length p)) × (p ≡ unrank_after n s i j k p)
+  unrank_refused o e eo f =
+      let first = unrank_first n s i j k (length p) in
+      (refused_with conditions _ first _ o e eo f, refused_leaves conditions _ first (written (walk n s.words i j k) p) p e f)
 
-  pub walk_astray : walk n s.words i j k ≡ [] → First (unrank_conditions n s i j k len) 9
-  walk_astray e = past_checks 9 (inl (e, refl))
+  -- by the check of the sheet
+  pub unrank_unsized : (o : Result ℕ Refusal) (e : Refusal) → o ≡ Err e → First (sized n s []) (number_of_refusal e)
+      → (answer_of o ≡ unrank_answer n s i j k (length p)) × (p ≡ unrank_after n s i j k p)
+  unrank_unsized o e eo f = unrank_refused o e eo (shape_refused n s _ f (refusal_some e) (before_walk n s i j k (length p) ++ walk_conditions n s i j k))
 
-  pub walk_arrived : (l : List ℕ) → IsWalk n s.words i j k l → First (unrank_conditions n s i j k len) 0
-  walk_arrived l w = past_checks 0 (inr ((λ e. omega (arith, w.some, ap length (w.is ∙ e))), refl))
+  module _ (f : First (sized n s []) 0) where
+    -- by what is looked for before the walk
+    pub unrank_stops : (o : Result ℕ Refusal) (e : Refusal) → o ≡ Err e → First (before_walk n s i j k (length p)) (number_of_refusal e)
+        → (answer_of o ≡ unrank_answer n s i j k (length p)) × (p ≡ unrank_after n s i j k p)
+    unrank_stops o e eo g =
+        unrank_refused o e eo
+        (past_shape n s (before_walk n s i j k (length p) ++ walk_conditions n s i j k) _ f
+        (refused_more (before_walk n s i j k (length p)) (walk_conditions n s i j k) e g))
+
+    module _ (g : First (before_walk n s i j k (length p)) 0) where
+      past_checks : (x : ℕ) → First (walk_conditions n s i j k) x → First conditions x
+      past_checks x h =
+          past_shape n s (before_walk n s i j k (length p) ++ walk_conditions n s i j k) x f
+          (first_after (before_walk n s i j k (length p)) (walk_conditions n s i j k) 0 x refl g refl h)
+
+      pub unrank_astray : (o : Result ℕ Refusal) → o ≡ Err NotValid → walk n s.words i j k ≡ []
+          → (answer_of o ≡ unrank_answer n s i j k (length p)) × (p ≡ unrank_after n s i j k p)
+      unrank_astray o eo e = unrank_refused o NotValid eo (past_checks 9 (inl (e, refl)))
+
+      pub unrank_arrived : (l q : List ℕ) → IsWalk n s.words i j k l → q ≡ written l p
+          → (answer 0 0 (length l) ≡ unrank_answer n s i j k (length p)) × (q ≡ unrank_after n s i j k p)
+      unrank_arrived l q w eq =
+          let first = unrank_first n s i j k (length p) in
+          let here : First conditions 0 = past_checks 0 (inr ((λ e. omega (arith, w.some, ap length (w.is ∙ e))), refl)) in (
+            accepted_with conditions _ first _ _ here (ap length w.is),
+            accepted_leaves conditions _ first (written (walk n s.words i j k) p) p q here (eq ∙ ap (λ (x : List ℕ). written x p) w.is),
+          )

@@ -1,4 +1,4 @@
--- The digits that stand at the front of the 20 are the decimal.
+-- `listing::digits::put` meets its contract: the digits that stand at the front are the decimal. Assumes nothing.
 use Rattle.std.proofs.Common.{rules, arith}
 use Rattle.listing_theory.proofs.DecimalLaws.{decimal_room, decimal_put}
 use Rattle.listing.proofs.digits.put.Goals as goal

@@ -1,3 +1,4 @@
+-- `listing::lines::put_lines` meets its contract: one turn puts one piece. Assumes nothing.
 use Rattle.std.proofs.Common.{arith}
 use Rattle.text.proofs.TextLaws.{pieces_start, pieces_room, pieces_more, pieces_done}
 use Rattle.listing_theory.specs.Lines.{count_lines}
