@@ -34,22 +34,6 @@ fn from_factor(inserts: bool, t: u64, y: u64) -> u64
     word::wrapping_sub(0, y)
 }
 
-// The first n words of u: at each j, what F is multiplied by in the counts to j.
-fn from_factors(
-    inserts: bool,
-    sheet: View,
-    v: usize,
-    t: &[u64; Sheet::VERTICES],
-    u: &mut [u64; Sheet::VERTICES],
-)
-    requires { v < sheet.n }
-    ensures { u.new ≡ with_factors inserts sheet.entry.n sheet.entry.words.now v t.now u.old }
-{
-    for (j, y) in sheet.counts_from(v).iter().enumerate() {
-        u[j] = from_factor(inserts, t[j], *y);
-    }
-}
-
 // The sum of the words at the places of the mask, modulo 2^64.
 fn sum_at(words: &[u64], mask: u64) -> u64
     requires { mask < 2 ^ length words.now }
@@ -99,10 +83,22 @@ impl EdgesAt {
         requires { (self.n ≤ most_vertices) × (length counts.old ≡ self.n) }
         ensures { counts.new ≡ counts_from_edited self.inserts self.n counts.old self.v self.predecessors t.now u.now }
     {
+        // f comes before x: the other way about, an edit by masks takes some hundredths longer.
         let f = sum_at(counts, self.predecessors);
         let x = counts[self.v];
         add_multiple(counts, to_factor(self.inserts, x, f), t);
         add_multiple(counts, f, u);
+    }
+
+    // The first n words of u: at each j, what F is multiplied by in the counts to j. u is lent, since an array that is handed out is
+    // copied.
+    fn from_factors(self, sheet: View, t: &[u64; Sheet::VERTICES], u: &mut [u64; Sheet::VERTICES])
+        requires { sheet.n ≡ self.n }
+        ensures { u.new ≡ with_factors self.inserts sheet.entry.n sheet.entry.words.now self.v t.now u.old }
+    {
+        for (j, y) in sheet.counts_from(self.v).iter().enumerate() {
+            u[j] = from_factor(self.inserts, t[j], *y);
+        }
     }
 
     // Every count by both sums.
@@ -115,7 +111,7 @@ impl EdgesAt {
             words: sheet,
         };
         let mut u = [0u64; Sheet::VERTICES];
-        from_factors(self.inserts, lent, self.v, t, &mut u);
+        self.from_factors(lent, t, &mut u);
         for i in 0..self.n {
             let from = sheet::layout::counts_from(self.n, i);
             self.edit_counts_from(&mut sheet[from..from + self.n], t, &u);
@@ -131,6 +127,7 @@ impl EdgesAt {
             n: self.n,
             words: sheet,
         };
+        // Added up where they stand: handed out by a function of their own, they are copied, and an edge takes a tenth longer.
         let mut sums = [0u64; Sheet::VERTICES];
         lent.combine_counts::<Plus>(0, self.n, self.successors, &mut sums);
         if self.predecessors == 0 {
