@@ -27,9 +27,6 @@ use Rattle.edit_theory.proofs.TestLaws.{named_of, named_into, named_out}
 -- ---- refused_bits
 
 module _ (inserts : Bool) (row : ℕ) where
-  pub refused_there : inserts ≡ true → RefusedBits inserts row row
-  refused_there e j h = rw e (λ o. o, λ o. o)
-
   pub refused_absent : row < 2 ^ 64 → inserts ≡ false → RefusedBits inserts row ((2 ^ 64 - 1) - row)
   refused_absent l e j h = rw e (λ o. omega (arith, bit_not 64 row j l h), λ o. omega (arith, bit_not 64 row j l h))
 

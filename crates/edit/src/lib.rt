@@ -36,13 +36,11 @@ fn edit_at(edges: EdgesAt, sheet: &mut [u64]) -> Result<u64, Refusal>
     requires { Shape edges.n sheet.old }
     ensures { MadeAt edges (lent sheet.old) (answer_of result) (lent sheet.new) }
 {
-    checks::check_edges(
-        edges,
-        View {
-            n: edges.n,
-            words: sheet,
-        },
-    )?;
+    let lent = View {
+        n: edges.n,
+        words: sheet,
+    };
+    checks::check_edges(edges, lent)?;
     Ok(write_edit(edges, sheet))
 }
 

@@ -49,6 +49,14 @@ module _ (l : List ℕ) (x : ℕ) (T : List ℕ) where
 
 -- ---- the counts from one vertex
 
+-- `edit_counts_from`: both multiples, where f is the sum over the predecessors a and x the factor of T
+pub counts_from_edited_lem : (inserts : Bool) (n : ℕ) (l : List ℕ) (v a f x : ℕ) (T U h w : List ℕ) → f ≡ sum_at n l a
+    → x ≡ to_factor inserts (get_or l v 0) f → h ≡ with_multiple n l x T → w ≡ with_multiple n h f U → w ≡ counts_from_edited inserts n l v a T U
+counts_from_edited_lem inserts n l v a f x T U h w ef ex eh e =
+    e
+    ∙ ap (λ (k : List ℕ). with_multiple n k f U) (eh ∙ ap (λ (y : ℕ). with_multiple n l y T) ex)
+    ∙ ap (λ (g : ℕ). with_multiple n (with_multiple n l (to_factor inserts (get_or l v 0) g) T) g U) ef
+
 module _ (inserts : Bool) (n : ℕ) (s : List ℕ) (v a i : ℕ) (T l : List ℕ) where
   -- the counts from i as the edit leaves them
   pub record Edited (w : List ℕ) : Type 0 where
@@ -99,9 +107,6 @@ pub record Editing (inserts : Bool) (n : ℕ) (s : List ℕ) (v a : ℕ) (T : Li
   pub kept : (x : ℕ) → (x < n) ⊎ (counts_from n i ≤ x) → get_or t x 0 ≡ get_or s x 0
 
 module _ (inserts : Bool) (n : ℕ) (s : List ℕ) (v a : ℕ) (T : List ℕ) where
-  pub editing_start : Editing inserts n s v a T 0 s
-  editing_start = record { long = refl; done = λ k q. absurd (omega arith); kept = λ x q. refl }
-
   pub editing_all : (i : ℕ) (t : List ℕ) → Editing inserts n s v a T i t → i ≡ n → t ≡ counts_by inserts n s v a T
   editing_all i t was e =
       redone_ext n (row_at s) (count_by inserts n s v a T) s t was.long (λ k h. was.kept k (inl h))

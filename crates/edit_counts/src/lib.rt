@@ -54,8 +54,8 @@ fn add_multiple(words: &mut [u64], x: u64, t: &[u64; Sheet::VERTICES])
     if x == 0 {
         return;
     }
-    for j in 0..words.len() {
-        words[j] = word::wrapping_add(words[j], word::wrapping_mul(x, t[j]));
+    for (j, word) in words.iter_mut().enumerate() {
+        *word = word::wrapping_add(*word, word::wrapping_mul(x, t[j]));
     }
 }
 
