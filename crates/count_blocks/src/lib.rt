@@ -43,7 +43,7 @@ struct Block<'a, 'b> {
 }
 
 impl<'a, 'b> Block<'a, 'b> {
-    // The place of i among the columns, if it is one of them. Where i is before them the difference is beyond every place, so one test tells.
+    // The place of i among the columns, if it is one of them. Where i is before them the difference is beyond every place: one test tells.
     fn place_of(self, i: usize) -> Option<usize>
         requires { i < most_vertices }
         ensures { PlaceOf i self.entry.c result }
@@ -105,7 +105,8 @@ impl<'a, 'b> Block<'a, 'b> {
     }
 }
 
-// The words of a block, copied. They are added to 0, which keeps them in registers: `copy_from_slice` goes through memory.
+// The words of a block, copied. They are added to 0, which keeps them in registers: `copy_from_slice` goes through memory, and by it
+// `validate` takes up to a third longer.
 fn block_of(words: &[u64]) -> [u64; COLUMNS]
     requires { length words.now ≡ columns }
     ensures { SameWords columns result words.now }
@@ -144,7 +145,8 @@ fn block_at(n: usize, c: usize) -> usize
     c.min(n - COLUMNS)
 }
 
-// The counts from i to the columns from c on, written.
+// The counts from i to the columns from c on, written. What writes a sheet takes n and the words: a struct that held the `&mut` would have
+// to say in each contract that it keeps both.
 fn fill_part(n: usize, sheet: &mut [u64], i: usize, c: usize, mask: u64, unit: &[u64; UNIT_WORDS])
     requires { (BlockReady n sheet.old c unit.now) × (i < n) × (mask < 2 ^ n) }
     ensures { sheet.new ≡ with_counts n sheet.old i c columns (λ (j : ℕ). count_by_mask n sheet.old i j mask) }

@@ -10,19 +10,22 @@ ghost use Rattle.vertex_counts.specs.Internal.{SuccessorsSummed, SameWords, coun
 ghost use Rattle.order.specs.Internal.{Ordered};
 
 use sheet::{Sheet, View};
+use word::Plus;
 
-// The counts from i as the recurrence gives them: one to i itself, and those from its successors added up, modulo 2^64.
+// The counts from i as the recurrence gives them: one to i itself, and those from its successors added up, modulo 2^64. They are added up
+// here: what `View::sum_counts` gives would be copied once more, and `validate` takes a tenth longer on 8 vertices.
 fn sum_successors(sheet: View, i: usize) -> [u64; Sheet::VERTICES]
     requires { (i < sheet.n) × (row_at sheet.words.now i < 2 ^ sheet.n) }
     ensures { SuccessorsSummed sheet.entry.n sheet.entry.words.now i result }
 {
-    let mut t = sheet.sum_counts(sheet.row(i));
+    let mut t = [0u64; Sheet::VERTICES];
+    sheet.combine_counts::<Plus>(0, sheet.n, sheet.row(i), &mut t);
     t[i] = word::wrapping_add(t[i], 1);
     t
 }
 
-// Internal: whether these words are the first of t. The differences of all are gathered and tested once: a comparison that ends at the
-// first difference has a branch for each word.
+// Internal: whether these words are the first of t. The differences of all are gathered and tested once: `==` tests word by word, and by it
+// `validate` takes three times as long.
 pub fn same_words(words: &[u64], t: &[u64]) -> bool
     requires { length words.now ≤ length t.now }
     ensures { Reflects result (SameWords (length words.now) words.now t.now) }
@@ -55,7 +58,8 @@ pub fn all_counts_hold(sheet: View) -> bool
     true
 }
 
-// The counts from v, written as the recurrence gives them.
+// The counts from v, written as the recurrence gives them. What writes a sheet takes n and the words: a struct that held the `&mut` would
+// have to say in each contract that it keeps both.
 fn fill_counts_from(n: usize, sheet: &mut [u64], v: usize)
     requires { (Shape n sheet.old) × (v < n) × (row_at sheet.old v < 2 ^ n) }
     ensures { sheet.new ≡ with_counts n sheet.old v 0 n (successors_sum n sheet.old v) }
