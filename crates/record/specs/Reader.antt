@@ -1,5 +1,5 @@
 -- The records of a plan, one after the other, as the plan reader gives them. Definitions only. Assumes nothing.
-use Rattle.std.specs.Prelude.{◌≡◌, Option, MatchOption, List, map, ℕ, ◌+◌, ◌-◌, ◌*◌, length, take, drop}
+use Rattle.std.specs.Prelude.{◌≡◌, Option, MatchOption, List, [], ◌∷◌, map, ℕ, ◌+◌, ◌-◌, ◌*◌, length, take, drop}
 use Rattle.std.specs.Int.{div_ceil}
 use Rattle.std.specs.List.{range_with_len}
 use Rattle.std.specs.Iterator.{YieldsFirst}
@@ -14,6 +14,10 @@ record_at plan k = decoded (take record_bytes (drop (record_bytes * k) plan))
 -- what the records of a plan say from the record k on, to the last that begins within the plan
 unfoldable pub records_from : List ℕ → ℕ → List (Option Record)
 records_from plan k = map (record_at plan) (range_with_len k (div_ceil (length plan) record_bytes - k))
+
+-- r is what the record k of a plan says, the first of those from it on; none if there are none
+abbrev pub GivesAt : List ℕ → ℕ → Option (Option Record) → Type 0
+GivesAt plan k r = MatchOption r (records_from plan k ≡ []) (λ x. records_from plan k ≡ x ∷ records_from plan (k + 1))
 
 -- what a reader has left to give, from the record that it has got to on
 abbrev pub records_left : PlanReader → List (Option Record)

@@ -1,7 +1,8 @@
 // The plan reader: an iterator over what the records of a plan say.
-ghost use Rattle.std.specs.Prelude.{◌≡◌};
+ghost use Rattle.std.specs.Prelude.{◌≡◌, ◌*◌, ◌<◌, ◌^◌, IfSome};
+ghost use Rattle.record.specs.Record.{record_bytes};
 ghost use Rattle.std.specs.Iterator.{item_count};
-ghost use Rattle.record.specs.Reader.{records_left, Reads};
+ghost use Rattle.record.specs.Reader.{records_left, GivesAt, Reads};
 
 use crate::{Record, decode};
 
@@ -30,11 +31,20 @@ impl<'a> Iterator for PlanReader<'a> {
     ghost remaining = { item_count records_left };
 
     fn next(&mut self) -> Option<Option<Record>> {
-        if self.plan.len().div_ceil(Record::BYTES) <= self.record {
-            return None;
-        }
-        let start = Record::BYTES * self.record;
+        let reading = reading_at(self.plan, self.record)?;
         self.record += 1;
-        Some(decode(&self.plan[start..]))
+        Some(reading)
     }
+}
+
+// What the record k of a plan says, from 0 up; none if no byte is left there. The work of `next`.
+fn reading_at(plan: &[u8], k: usize) -> Option<Option<Record>>
+    ensures gives { GivesAt plan.now k result }
+    ensures within { IfSome result (λ _. record_bytes * k < 2 ^ 64) }
+{
+    if plan.len().div_ceil(Record::BYTES) <= k {
+        return None;
+    }
+    let start = Record::BYTES * k;
+    Some(decode(&plan[start..]))
 }
