@@ -1,12 +1,12 @@
 -- An edit: the counts and then the rows make the edited sheet; and the ways out of `edit_at` and of the four calls. Assumes nothing.
-use Rattle.std.proofs.Common.{◌≡◌, Bool, true, false, ℕ, List, [], length, sym, ap, ◌∙◌}
+use Rattle.std.proofs.Common.{Result, Err, ◌≡◌, Bool, true, false, ℕ, List, [], length, sym, ap, ◌∙◌}
 use Rattle.answer.specs.declared.Answer.{Answer}
 use Rattle.answer.specs.declared.Refusal.{Refusal}
 use Rattle.answer.specs.Table.{First}
-use Rattle.answer.specs.Answers.{answer, decided, answered, number_of_refusal}
+use Rattle.answer.specs.Answers.{answer, decided, answered, number_of_refusal, answer_of}
 use Rattle.answer.proofs.TableLaws.{first_only}
 use Rattle.answer.proofs.AnswerLaws.{decided_old}
-use Rattle.answer.proofs.OutcomeLaws.{refusal_some}
+use Rattle.answer.proofs.OutcomeLaws.{refusal_some, refused_with, refused_leaves}
 use Rattle.sheet_theory.specs.Layout.{Shape, size, set_bits}
 use Rattle.sheet_theory.specs.Lent.{Lent, lent, Lends}
 use Rattle.sheet_theory.specs.Conditions.{altering}
@@ -63,19 +63,43 @@ module _ (inserts : Bool) (n : ℕ) (s : Lent) (v a b : ℕ) (r : Answer) where
 -- ---- the calls
 
 module _ (e : Edit) (s : Lent) where
-  -- refused by 1 or 2
-  pub altering_refused : (r : Refusal) → First (altering e.vertices s []) (number_of_refusal r) → First (edit_conditions e s) (number_of_refusal r)
-  altering_refused r f = shape_refused e.vertices s (number_of_refusal r) f (refusal_some r) (asked e most_parallel (opened e.vertices s) (edit_grounds e s))
+  abbrev Refuses : Refusal → Type 0
+  Refuses r = First (edit_conditions e s) (number_of_refusal r)
+
+  -- how a call that is refused by one of its conditions answers, and what it leaves
+  refused_answer : (o : Result ℕ Refusal) (r : Refusal) → o ≡ Err r → Refuses r → answer_of o ≡ edit_answer e s
+  refused_answer o r eo f = refused_with (edit_conditions e s) _ (edit_first e s) _ o r eo f
+
+  refused_after : (r : Refusal) → Refuses r → s ≡ edit_after e s
+  refused_after r f = refused_leaves (edit_conditions e s) _ (edit_first e s) (edit_made e s) s r f
+
+  -- by 1 or 2
+  module _ (r : Refusal) (f : First (altering e.vertices s []) (number_of_refusal r)) where
+    by_shape : Refuses r
+    by_shape = shape_refused e.vertices s (number_of_refusal r) f (refusal_some r) (asked e most_parallel (opened e.vertices s) (edit_grounds e s))
+
+    pub shape_answer : (o : Result ℕ Refusal) → o ≡ Err r → answer_of o ≡ edit_answer e s
+    shape_answer o eo = refused_answer o r eo by_shape
+
+    pub shape_after : s ≡ edit_after e s
+    shape_after = refused_after r by_shape
 
   module _ (f : First (altering e.vertices s []) 0) where
     shape : Lends e.vertices s
     shape = accepted_shape e.vertices s [] f
 
     -- by 3 or 4
-    pub argued_refused_lem : (r : Refusal) → First (argued e.vertices e.edges []) (number_of_refusal r) → First (edit_conditions e s) (number_of_refusal r)
-    argued_refused_lem r g = shape_passed e.vertices s shape _ _ (argued_refused e.vertices e.edges _ _ g (refusal_some r))
+    module _ (r : Refusal) (g : First (argued e.vertices e.edges []) (number_of_refusal r)) where
+      by_argument : Refuses r
+      by_argument = shape_passed e.vertices s shape _ _ (argued_refused e.vertices e.edges _ _ g (refusal_some r))
 
-    -- or as `edit_at` answers: its edges are those of the edit, at their vertex by their masks
+      pub argument_answer : (o : Result ℕ Refusal) → o ≡ Err r → answer_of o ≡ edit_answer e s
+      argument_answer o eo = refused_answer o r eo by_argument
+
+      pub argument_after : s ≡ edit_after e s
+      argument_after = refused_after r by_argument
+
+    -- or as `edit_at` answers, at the vertex and by the masks of the edit's edges
     module _ (g : First (argued e.vertices e.edges []) 0) (inserts : Bool) (n v a b : ℕ) (names : Names e inserts n v a b) where
       pub names_shape : Shape n s.words
       names_shape = rw names.vertices shape

@@ -9,15 +9,12 @@ use Rattle.sheet_theory.specs.Lent.{Lent}
 use Rattle.edit_counts.specs.declared.edges.EdgesAt.{EdgesAt}
 use Rattle.edit_theory.specs.Edit.{at, Edit, edges_edit, one_if, marked}
 use Rattle.edit_theory.specs.Book.{opened}
-use Rattle.edit_theory.specs.Table.{SomeOf, most_parallel, effects, asked}
+use Rattle.edit_theory.specs.Table.{SomeOf, most_parallel, effects}
 use Rattle.edit_theory.specs.Outcome.{edited_row, edited, edit_grounds, edit_words, edit_made}
 
 -- ---- the core
 
--- k is the number of the first condition on s that holds: from 3 on, of the edit e; and from 5 on, of the edit at v by the masks a and b
-unfoldable pub AskedNumber : Edit → Lent → ℕ → Type 0
-AskedNumber e s k = First (asked e most_parallel (opened e.vertices s) (edit_grounds e s)) k
-
+-- k is the number of the first condition on s that holds, from 5 on, of the edit at v by the masks a and b
 unfoldable pub EditNumber : Bool → ℕ → Lent → ℕ → ℕ → ℕ → ℕ → Type 0
 EditNumber inserts n s v a b k = First (effects inserts n most_parallel (at v a b) (opened n s) (edit_grounds (edges_edit inserts n v a b) s)) k
 
@@ -32,10 +29,7 @@ pub record Made (Number : ℕ → Type 0) (e : Edit) (s : Lent) (r : Answer) (t 
   pub answers : r ≡ answered r.number (set_bits e.vertices (edit_words e s))
   pub leaves : t ≡ decided r.number (edit_made e s) s
 
-abbrev pub Edited : Edit → Lent → Answer → Lent → Type 0
-Edited e s r t = Made (AskedNumber e s) e s r t
-
--- the same of the edges x, once the arguments are in order
+-- the edit that has the edges x, once 1 to 4 are past, on s answers r and leaves t
 abbrev pub MadeAt : EdgesAt → Lent → Answer → Lent → Type 0
 MadeAt x s r t =
     Made (EditNumber x.inserts x.n s x.v x.predecessors x.successors) (edges_edit x.inserts x.n x.v x.predecessors x.successors) s r t

@@ -24,13 +24,13 @@ fn refused_bits(inserts: bool, row: u64) -> u64
     !row
 }
 
-// Whether an insertion finds an edge from a vertex of the mask to v, or a deletion misses one.
-fn some_into(inserts: bool, sheet: View, v: usize, mask: u64) -> bool
-    requires { (v < sheet.n) × (mask < 2 ^ sheet.n) }
-    ensures { Reflects result (SomeOf sheet.entry.n mask (λ (i : ℕ). edge_at sheet.entry.words.now i v ≡ one_if inserts)) }
+// Whether an insertion finds one of the edges to v, or a deletion misses one.
+fn some_into(edges: EdgesAt, sheet: View) -> bool
+    requires { sheet.n ≡ edges.n }
+    ensures { Reflects result (SomeOf sheet.entry.n edges.predecessors (λ (i : ℕ). edge_at sheet.entry.words.now i edges.v ≡ one_if edges.inserts)) }
 {
-    for i in Bits::of(mask) {
-        if word::test_bit(refused_bits(inserts, sheet.row(i)), v) {
+    for i in Bits::of(edges.predecessors) {
+        if word::test_bit(refused_bits(edges.inserts, sheet.row(i)), edges.v) {
             return true;
         }
     }
@@ -42,7 +42,7 @@ fn some_edge(edges: EdgesAt, sheet: View) -> bool
     requires { sheet.n ≡ edges.n }
     ensures { Reflects result (SomeEdge sheet.entry.n (at edges.v edges.predecessors edges.successors) (λ (i j : ℕ). edge_at sheet.entry.words.now i j ≡ one_if edges.inserts)) }
 {
-    if some_into(edges.inserts, sheet, edges.v, edges.predecessors) {
+    if some_into(edges, sheet) {
         return true;
     }
     edges.successors & refused_bits(edges.inserts, sheet.row(edges.v)) != 0

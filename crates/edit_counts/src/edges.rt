@@ -18,7 +18,7 @@ pub struct EdgesAt {
     pub v: usize,
     pub predecessors: u64,
     pub successors: u64,
-    ghost vertex: { v < n },
+    ghost vertex_fits: { v < n },
     ghost predecessors_fit: { predecessors < 2 ^ n },
     ghost successors_fit: { successors < 2 ^ n },
 }

@@ -4,7 +4,7 @@
 // x T + F (T + y) to the count from i to j, and a deletion (F - x) T + F (-y).
 #![tactic(auto)]
 
-ghost use Rattle.std.specs.Prelude.{◌≡◌, ◌≤◌, ◌<◌, ◌^◌, length, replicate};
+ghost use Rattle.std.specs.Prelude.{◌≡◌, ◌≤◌, ◌<◌, ◌^◌, length};
 ghost use Rattle.sheet_theory.specs.Layout.{most_vertices, Shape};
 ghost use Rattle.edit_counts.specs.Internal.{to_factor, from_factor, with_factors, sum_at, with_multiple, counts_from_edited, counts_by, counts_edited};
 
@@ -12,7 +12,7 @@ pub mod edges;
 
 pub use edges::EdgesAt;
 use sheet::{Sheet, View};
-use word::Bits;
+use word::{Bits, Plus};
 
 // What T is multiplied by: x for an insertion, f less x for a deletion, modulo 2^64.
 fn to_factor(inserts: bool, x: u64, f: u64) -> u64
@@ -32,23 +32,6 @@ fn from_factor(inserts: bool, t: u64, y: u64) -> u64
         return word::wrapping_add(t, y);
     }
     word::wrapping_sub(0, y)
-}
-
-// At each j below n, what F is multiplied by in the counts to j.
-fn from_factors(
-    inserts: bool,
-    sheet: View,
-    v: usize,
-    t: &[u64; Sheet::VERTICES],
-) -> [u64; Sheet::VERTICES]
-    requires { v < sheet.n }
-    ensures { result ≡ with_factors inserts sheet.entry.n sheet.entry.words.now v t.now (replicate most_vertices 0) }
-{
-    let mut u = [0u64; Sheet::VERTICES];
-    for (j, y) in sheet.counts_from(v).iter().enumerate() {
-        u[j] = from_factor(inserts, t[j], *y);
-    }
-    u
 }
 
 // The sum of the words at the places of the mask, modulo 2^64.
@@ -100,10 +83,22 @@ impl EdgesAt {
         requires { (self.n ≤ most_vertices) × (length counts.old ≡ self.n) }
         ensures { counts.new ≡ counts_from_edited self.inserts self.n counts.old self.v self.predecessors t.now u.now }
     {
-        let x = counts[self.v];
+        // f comes before x: the other way about, an edit by masks takes some hundredths longer.
         let f = sum_at(counts, self.predecessors);
+        let x = counts[self.v];
         add_multiple(counts, to_factor(self.inserts, x, f), t);
         add_multiple(counts, f, u);
+    }
+
+    // The first n words of u: at each j, what F is multiplied by in the counts to j. u is lent, since an array that is handed out is
+    // copied.
+    fn from_factors(self, sheet: View, t: &[u64; Sheet::VERTICES], u: &mut [u64; Sheet::VERTICES])
+        requires { sheet.n ≡ self.n }
+        ensures { u.new ≡ with_factors self.inserts sheet.entry.n sheet.entry.words.now self.v t.now u.old }
+    {
+        for (j, y) in sheet.counts_from(self.v).iter().enumerate() {
+            u[j] = from_factor(self.inserts, t[j], *y);
+        }
     }
 
     // Every count by both sums.
@@ -111,15 +106,12 @@ impl EdgesAt {
         requires { Shape self.n sheet.old }
         ensures { sheet.new ≡ counts_by self.inserts self.n sheet.old self.v self.predecessors t.now }
     {
-        let u = from_factors(
-            self.inserts,
-            View {
-                n: self.n,
-                words: sheet,
-            },
-            self.v,
-            t,
-        );
+        let lent = View {
+            n: self.n,
+            words: sheet,
+        };
+        let mut u = [0u64; Sheet::VERTICES];
+        self.from_factors(lent, t, &mut u);
         for i in 0..self.n {
             let from = sheet::layout::counts_from(self.n, i);
             self.edit_counts_from(&mut sheet[from..from + self.n], t, &u);
@@ -135,7 +127,9 @@ impl EdgesAt {
             n: self.n,
             words: sheet,
         };
-        let sums = lent.sum_counts(self.successors);
+        // Added up where they stand: handed out by a function of their own, they are copied, and an edge takes a tenth longer.
+        let mut sums = [0u64; Sheet::VERTICES];
+        lent.combine_counts::<Plus>(0, self.n, self.successors, &mut sums);
         if self.predecessors == 0 {
             self.edit_to(sheet, &sums);
             return;

@@ -5,7 +5,7 @@ use Rattle.edit.proofs.CheckLaws.{cycle_into, cycle_out}
 use Rattle.edit.proofs.checks.closes_cycle.Goals as goal
 
 pub meets-requires : goal.meets-requires
-meets-requires c = rw c.requires (c.args.edges.vertex, c.args.edges.predecessors_fit)
+meets-requires c = rw c.requires (c.args.edges.vertex_fits, c.args.edges.predecessors_fit)
 
 pub returns-then-meets : goal.returns-then-meets
 returns-then-meets c = cycle_into _ c.args.sheet.words.now _ _ _ _ c.meets.ensures c.if-meets.true
@@ -13,7 +13,7 @@ returns-then-meets c = cycle_into _ c.args.sheet.words.now _ _ _ _ c.meets.ensur
 pub some_meets-requires : goal.some_meets-requires
 some_meets-requires c =
     let e = c.args.edges in
-    rw (c.requires, c.set_bit-ends.ensures) (e.successors_fit, set_below _ _ _ e.vertex e.predecessors_fit)
+    rw (c.requires, c.set_bit-ends.ensures) (e.successors_fit, set_below _ _ _ e.vertex_fits e.predecessors_fit)
 
 pub returns : goal.returns
 returns c = cycle_out _ c.args.sheet.words.now _ _ _ _ c.meets.ensures _ _ (omega arith) c.if-meets.false c.set_bit-ends.ensures c.some_meets.ensures

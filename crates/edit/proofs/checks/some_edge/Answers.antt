@@ -3,9 +3,6 @@ use Rattle.std.proofs.Common.{arith}
 use Rattle.edit.proofs.CheckLaws.{edge_into, edge_out}
 use Rattle.edit.proofs.checks.some_edge.Goals as goal
 
-pub some_into-requires : goal.some_into-requires
-some_into-requires c = rw c.requires (c.args.edges.vertex, c.args.edges.predecessors_fit)
-
 pub returns-then-some_into : goal.returns-then-some_into
 returns-then-some_into c =
     let a = c.args in

@@ -6,4 +6,4 @@ use Rattle.edit.proofs.SearchLaws.{Searching}
 use Rattle.edit.proofs.checks.some_into.Given as goal
 
 abbrev pub invariant-loop-i : goal.invariant-loop-i
-invariant-loop-i l = Searching l.sheet.n l.mask l.i-iterator.rest (λ (i : ℕ). edge_at l.sheet.words.now i l.v ≡ one_if l.inserts)
+invariant-loop-i l = Searching l.sheet.n l.edges.predecessors l.i-iterator.rest (λ (i : ℕ). edge_at l.sheet.words.now i l.edges.v ≡ one_if l.edges.inserts)

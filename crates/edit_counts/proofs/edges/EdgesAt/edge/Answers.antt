@@ -4,4 +4,4 @@ use Rattle.edit_counts.proofs.EdgesLaws.{one_fits}
 use Rattle.edit_counts.proofs.edges.EdgesAt.edge.Goals as goal
 
 pub invariant_of-result : goal.invariant_of-result
-invariant_of-result c = record { vertex = omega arith; predecessors_fit = pow_pos c.args.n; successors_fit = one_fits _ _ (omega arith) (omega arith) }
+invariant_of-result c = record { vertex_fits = omega arith; predecessors_fit = pow_pos c.args.n; successors_fit = one_fits _ _ (omega arith) (omega arith) }

@@ -1,9 +1,14 @@
 -- `edit_counts::EdgesAt::edit_counts` meets its contract, by those of its parts. Assumes nothing.
+use Rattle.sheet.proofs.WordsLaws.{counts_summed}
 use Rattle.edit_counts.proofs.EditedCounts.{counts_edited_lem}
 use Rattle.edit_counts.proofs.edges.EdgesAt.edit_counts.Goals as goal
 
 pub returns-then-self-eq0 : goal.returns-then-self-eq0
-returns-then-self-eq0 c = search counts_edited_lem
+returns-then-self-eq0 c =
+    let sums = counts_summed _ c.args.sheet.now _ _ c.requires.high c.combine_counts.ensures in
+    search counts_edited_lem
 
 pub returns : goal.returns
-returns c = search counts_edited_lem
+returns c =
+    let sums = counts_summed _ c.args.sheet.now _ _ c.requires.high c.combine_counts.ensures in
+    search counts_edited_lem

@@ -7,7 +7,7 @@ pub loop-i-preserved : goal.loop-i-preserved
 loop-i-preserved c =
     let lent = editing_lent _ _ _ _ _ _ c.requires _ _ c.loop-i.invariant (omega arith) _ c.counts_from-from.ensures in
     editing_more _ _ _ _ _ _ c.requires _ _ c.loop-i.invariant (omega arith) _ c.counts_from-from.ensures _ _
-    (edited_alone _ _ _ _ _ _ _ _ c.args.self.vertex lent _ _ _ refl c.to_factor.ensures lent.long c.add_multiple.ensures)
+    (edited_alone _ _ _ _ _ _ _ _ c.args.self.vertex_fits lent _ _ _ refl c.to_factor.ensures lent.long c.add_multiple.ensures)
 
 pub returns : goal.returns
 returns c = editing_all _ _ _ _ _ _ _ _ c.loop-i.invariant (omega arith)

@@ -1,8 +1,8 @@
--- `edit_counts::from_factors` meets its contract: a turn writes one word more. Assumes nothing.
+-- `edit_counts::EdgesAt::from_factors` meets its contract: a turn writes one word more. Assumes nothing.
 use Rattle.std.proofs.Common.{refl, ap, ◌∙◌, arith}
 use Rattle.sheet.proofs.FillLaws.{puts_none, puts_more}
 use Rattle.edit_counts.specs.Internal.{from_factor}
-use Rattle.edit_counts.proofs.from_factors.Goals as goal
+use Rattle.edit_counts.proofs.edges.EdgesAt.from_factors.Goals as goal
 
 pub loop-j-init : goal.loop-j-init
 loop-j-init c = puts_none _ _ _
@@ -10,4 +10,4 @@ loop-j-init c = puts_none _ _ _
 pub loop-j-preserved : goal.loop-j-preserved
 loop-j-preserved c =
     puts_more _ _ _ _ _ _ _ c.loop-j.invariant refl
-    (c.from_factor.ensures ∙ ap (from_factor c.args.inserts _) (c.counts_from-y-items.ensures.counts c.loop-j.j (omega (arith, c.counts_from-y-items.ensures.long))))
+    (c.from_factor.ensures ∙ ap (from_factor c.args.self.inserts _) (c.counts_from-y-items.ensures.counts c.loop-j.j (omega (arith, c.counts_from-y-items.ensures.long))))
