@@ -1,5 +1,5 @@
 -- The laws of outcomes: a refusal has a number that is not 0, and the answer follows from the first condition that holds. Assumes nothing.
-use Rattle.std.proofs.Common.{◌≡◌, ℕ, Result, Ok, Err, IfOk, List, ◌++◌, sym, ap, ◌∙◌, arith}
+use Rattle.std.proofs.Common.{◌≡◌, ℕ, Result, Ok, Err, IfOk, ◌++◌, sym, ap, ◌∙◌, arith}
 use Rattle.answer.specs.declared.Refusal.{Refusal}
 use Rattle.answer.specs.declared.Refusal.TheVariants.{Vertices, Length, Vertex, StrayBit, SelfLoop, Present, Absent, Cycle, NotValid, Buffer, NoSuchPath, NoPath, PlanLength, Record}
 use Rattle.answer.specs.Table.{Conditions, First}

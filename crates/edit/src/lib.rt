@@ -46,8 +46,8 @@ fn edit_at(edges: EdgesAt, sheet: &mut [u64]) -> Result<u64, Refusal>
     Ok(write_edit(edges, sheet))
 }
 
-// Internal: one edge, inserted or deleted. The next function is the same but for the arguments that name the edges, which can't be looked at before
-// n is known to be at most 64.
+// Internal: one edge, inserted or deleted. The next function is the same but for the arguments that name the edges, which can't be looked
+// at before n is known to be at most 64.
 pub fn edit_edge(
     inserts: bool,
     n: usize,
