@@ -11,9 +11,6 @@ use Rattle.answer.proofs.TableLaws.{reflects_or, reflects_not, reflects_lt, refl
 use Rattle.plan_theory.specs.Calls.{most_bytes, BadPlan, length_number}
 
 module _ (plan : List ℕ) where
-  pub length_broken : (length plan % record_bytes ≡ 0 → ⊥) → First (BadPlan plan gives 13 ∷ []) 13
-  length_broken d = inl (inl d, refl)
-
   pub length_long : most_bytes < length plan → First (BadPlan plan gives 13 ∷ []) 13
   length_long l = inl (inr l, refl)
 

@@ -1,23 +1,17 @@
--- The ways out of `order_rows` and `recount_core`. Assumes nothing.
-use Rattle.std.proofs.Common.{◌≡◌, Option, Some, None, inl, inr, List, ℕ, ◌%◌, ◌^◌, ◌<◌, length, get_or, refl, sym, ap, ◌∙◌, subst}
-use Rattle.std.specs.Option.{ok_or}
+-- A sheet that `recount_core` has recounted. Assumes nothing.
+use Rattle.std.proofs.Common.{◌≡◌, inr, List, ℕ, ◌%◌, ◌^◌, ◌<◌, length, get_or, refl, sym, ap, ◌∙◌, subst}
 use Rattle.graph.specs.Graph.{PathsExactly, Cycle}
 use Rattle.graph.specs.Count.{path_count}
-use Rattle.answer.specs.declared.Refusal.TheVariants.{Cycle as CycleFound}
-use Rattle.answer.specs.Table.{First}
-use Rattle.answer.specs.Answers.{answer, number_of}
-use Rattle.answer.proofs.TableLaws.{first_past}
+use Rattle.answer.specs.Answers.{answer}
 use Rattle.sheet_theory.specs.Conditions.{StrayRow}
 use Rattle.sheet_theory.specs.Layout.{Shape, row_at, count_at, edge_at, set_bits}
 use Rattle.sheet_theory.specs.Lent.{lent}
-use Rattle.sheet_theory.specs.Internal.{RowsBelow}
 use Rattle.sheet_theory.proofs.ValidLaws.{paths_exactly, paths_fit}
 use Rattle.sheet_theory.proofs.LayoutLaws.{redone_ext, length_redone, row_redone, count_redone, rest_redone}
 use Rattle.sheet_theory.proofs.SetBitsLaws.{set_bits_cong}
-use Rattle.sheet_theory.proofs.StrayLaws.{rows_iff}
 use Rattle.recount_theory.specs.Calls.{row_conditions, Recounted, RecountBy}
 use Rattle.vertex_counts.specs.Internal.{counted}
-use Rattle.order.specs.Internal.{OrderFound}
+use Rattle.order.specs.Internal.{Ordered}
 use Rattle.order.proofs.OrderLaws.{ordered_acyclic}
 
 -- a sheet whose counts are the numbers of paths, and which is s besides, is s recounted
@@ -35,25 +29,15 @@ recounted_of n s t shape acyclic e =
       counts = λ i j hi hj. subst (PathsExactly n (edge_at s) i j) (sym (count i j hi hj)) (paths_exactly n s shape.high acyclic i j hi);
     }
 
-module _ (n : ℕ) (s : List ℕ) where
-  pub rows_number : ¬ (StrayRow n s) → (found : Option (List ℕ)) → OrderFound n s found → First (row_conditions n (lent s)) (number_of (ok_or found CycleFound))
-  rows_number clean (Some l) o = inr (clean, inr (ordered_acyclic n s l o, refl))
-  rows_number clean None o = inr (clean, inl (o, refl))
-
-  pub clean_rows : First (row_conditions n (lent s)) 0 → RowsBelow n s
-  clean_rows f = (rows_iff n s).0 (first_past f).0
-
-  module _ (shape : Shape n s) (t : List ℕ) (e : t ≡ counted n s) where
-    -- once the counts are filled the sheet has its shape still
-    pub recount_shape : Shape n t
-    recount_shape = record { low = shape.low; high = shape.high; long = ap length e ∙ length_redone n (row_at s) _ s ∙ shape.long }
-
-    pub recount_accepted : First (row_conditions n (lent s)) 0 → (v : ℕ) → v ≡ set_bits n t
-        → RecountBy (row_conditions n (lent s)) n (lent s) (answer 0 0 v) (lent t)
-    recount_accepted f v ev = record {
-      number = f;
-      place = refl;
-      value = ev ∙ set_bits_cong n t s (λ i hi. ap (λ (l : List ℕ). row_at l i) e ∙ row_redone n (row_at s) _ s shape.long i hi);
-      accepted = λ q. recounted_of n s t shape (first_past (first_past f).1).0 e;
-      refused = λ d. absurd (d refl);
-    }
+module _ (n : ℕ) (s : List ℕ) (shape : Shape n s) (t : List ℕ) (e : t ≡ counted n s) where
+  pub recount_accepted : ¬ (StrayRow n s) → (l : List ℕ) → Ordered n s l → (v : ℕ) → v ≡ set_bits n t
+      → RecountBy (row_conditions n (lent s)) n (lent s) (answer 0 0 v) (lent t)
+  recount_accepted clean l o v ev =
+      let acyclic = ordered_acyclic n s l o in
+      record {
+        number = inr (clean, inr (acyclic, refl));
+        place = refl;
+        value = ev ∙ set_bits_cong n t s (λ i hi. ap (λ (l : List ℕ). row_at l i) e ∙ row_redone n (row_at s) _ s shape.long i hi);
+        accepted = λ q. recounted_of n s t shape acyclic e;
+        refused = λ d. absurd (d refl);
+      }

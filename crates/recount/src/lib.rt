@@ -15,17 +15,6 @@ ghost use Rattle.order.specs.Internal.{Ordered};
 
 use sheet::{Answer, Refusal, Sheet, View};
 
-// An order of the vertices, or why the rows allow none: 4 and 8.
-fn order_rows(sheet: View) -> Result<[usize; Sheet::VERTICES], Refusal>
-    ensures number { First (row_conditions sheet.entry.n (lent sheet.entry.words.now)) (number_of result) }
-    ensures order { IfOk result (Ordered sheet.entry.n sheet.entry.words.now) }
-{
-    if sheet.has_stray_row() {
-        return Err(Refusal::StrayBit);
-    }
-    order::find_order(sheet).ok_or(Refusal::Cycle)
-}
-
 // The counts, in the order given: each from those of its successors, which are earlier.
 fn fill_counts(n: usize, sheet: &mut [u64], order: &[usize; Sheet::VERTICES])
     requires { (Shape n sheet.old) × (RowsBelow n sheet.old) × (Ordered n sheet.old order.now) }
@@ -43,8 +32,15 @@ pub fn recount_core(n: usize, sheet: &mut [u64]) -> Result<u64, Refusal>
     requires { Shape n sheet.old }
     ensures { RecountBy (row_conditions n (lent sheet.old)) n (lent sheet.old) (answer_of result) (lent sheet.new) }
 {
-    let order = order_rows(View { n, words: sheet })?;
-    fill_counts(n, sheet, &order);
+    let lent = View { n, words: sheet };
+    if lent.has_stray_row() {
+        return Err(Refusal::StrayBit);
+    }
+    let found = order::find_order(lent);
+    let Some(order) = &found else {
+        return Err(Refusal::Cycle);
+    };
+    fill_counts(n, sheet, order);
     let counted = View { n, words: sheet };
     Ok(counted.set_bits())
 }
@@ -69,13 +65,17 @@ pub fn recount(n: usize, sheet: &mut [u64]) -> Answer
 fn is_valid(sheet: View) -> bool
     ensures { Reflects result (Valid sheet.entry.n (lent sheet.entry.words.now)) }
 {
-    let Ok(order) = order_rows(sheet) else {
+    if sheet.has_stray_row() {
+        return false;
+    }
+    let found = order::find_order(sheet);
+    let Some(order) = &found else {
         return false;
     };
     if sheet.n < count_blocks::COLUMNS {
         return vertex_counts::all_counts_hold(sheet);
     }
-    count_blocks::blocks_hold(sheet, &order)
+    count_blocks::blocks_hold(sheet, order)
 }
 
 // The work of `validate`.

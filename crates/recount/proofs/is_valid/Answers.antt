@@ -1,20 +1,25 @@
--- `recount::is_valid` meets its contract: each way out is a law of ValidateLaws. Assumes nothing.
+-- `recount::is_valid` meets its contract: where there is an order there is no cycle. Assumes nothing.
 use Rattle.std.proofs.Common.{arith}
-use Rattle.recount.proofs.RecountLaws.{clean_rows}
-use Rattle.recount.proofs.ValidateLaws.{valid_refused, valid_holds}
+use Rattle.answer.proofs.TableLaws.{reflects_false}
+use Rattle.sheet.proofs.StrayLaws.{rows_below}
+use Rattle.recount.proofs.ValidateLaws.{valid_holds}
 use Rattle.recount.proofs.is_valid.Goals as goal
 
-pub returns-in_default : goal.returns-in_default
-returns-in_default c = valid_refused _ _ c.in_default.field-0 (rw c.in_default.is at c.order_rows.ensures.number)
+pub find_order-found-requires : goal.find_order-found-requires
+find_order-found-requires c = search rows_below
 
 pub all_counts_hold-requires : goal.all_counts_hold-requires
-all_counts_hold-requires c = clean_rows _ _ c.in-Ok.ensures.number
+all_counts_hold-requires c = search rows_below
 
 pub returns-then-sheet-lt-COLUMNS : goal.returns-then-sheet-lt-COLUMNS
-returns-then-sheet-lt-COLUMNS c = valid_holds _ _ c.args.sheet.shape c.in-Ok.ensures.number _ c.all_counts_hold.ensures
+returns-then-sheet-lt-COLUMNS c =
+    let order = rw c.in-Some.is at c.find_order-found.ensures in
+    valid_holds _ _ c.args.sheet.shape ((reflects_false c.has_stray_row.ensures).0 c.if-has_stray_row.false) _ order _ c.all_counts_hold.ensures
 
 pub blocks_hold-requires : goal.blocks_hold-requires
-blocks_hold-requires c = (clean_rows _ _ c.in-Ok.ensures.number, c.in-Ok.ensures.order, omega arith)
+blocks_hold-requires c = (search rows_below, rw c.in-Some.is at c.find_order-found.ensures, omega arith)
 
 pub returns : goal.returns
-returns c = valid_holds _ _ c.args.sheet.shape c.in-Ok.ensures.number _ c.blocks_hold.ensures
+returns c =
+    let order = rw c.in-Some.is at c.find_order-found.ensures in
+    valid_holds _ _ c.args.sheet.shape ((reflects_false c.has_stray_row.ensures).0 c.if-has_stray_row.false) _ order _ c.blocks_hold.ensures

@@ -1,9 +1,16 @@
--- `recount::recount_core` meets its contract: each way out is a law of RecountLaws. Assumes nothing.
-use Rattle.recount.proofs.RecountLaws.{clean_rows, recount_accepted}
+-- `recount::recount_core` meets its contract: where there is an order there is no cycle. Assumes nothing.
+use Rattle.answer.proofs.TableLaws.{reflects_false}
+use Rattle.sheet.proofs.StrayLaws.{rows_below}
+use Rattle.recount.proofs.RecountLaws.{recount_accepted}
 use Rattle.recount.proofs.recount_core.Goals as goal
 
+pub find_order-found-requires : goal.find_order-found-requires
+find_order-found-requires c = search rows_below
+
 pub fill_counts-requires : goal.fill_counts-requires
-fill_counts-requires c = (c.requires, clean_rows _ _ c.in_ok-order.ensures.number, c.in_ok-order.ensures.order)
+fill_counts-requires c = (c.requires, search rows_below, rw c.in-Some.is at c.find_order-found.ensures)
 
 pub returns : goal.returns
-returns c = recount_accepted _ _ c.requires _ c.fill_counts.ensures c.in_ok-order.ensures.number _ c.set_bits.ensures
+returns c =
+    let order = rw c.in-Some.is at c.find_order-found.ensures in
+    recount_accepted _ _ c.requires _ c.fill_counts.ensures ((reflects_false c.has_stray_row.ensures).0 c.if-has_stray_row.false) _ order _ c.set_bits.ensures
