@@ -28,25 +28,11 @@ pub refused_by : {A : Type 0} {k : ℕ} (r : Answer) (old new : A) → r.number 
     → (¬ (r.number ≡ 0) → (r ≡ answer r.number 0 0) × (new ≡ old)) → (r ≡ answer (suc k) 0 0) × (new ≡ old)
 refused_by r old new e h = let p = h (λ z. omega (arith, e, z)) in (p.0 ∙ ap (λ k. answer k 0 0) e, p.1)
 
--- ---- the first of two numbers that refuses: k, or where that is 0 then j
-
-pub first_refuses : (k j : ℕ) → (k ≡ 0 → ⊥) → k ≡ decided k j k
-first_refuses k j d = sym (decided_old k j k d)
-
-pub first_then : (k j : ℕ) → k ≡ 0 → j ≡ decided k j k
-first_then k j z = rw z refl
-
 -- ---- the number k that the checks gave, and that of the definition, m, both of the first condition that holds
 
 module _ (cs : Conditions) (k m : ℕ) (f : First cs k) (g : First cs m) where
   same : k ≡ m
   same = first_only cs k m f g
-
-  -- what is refused
-  pub refused_as : {A : Type 0} (new old : A) (v : ℕ) (r : Answer) → (k ≡ 0 → ⊥) → r ≡ answer k 0 0 → (r ≡ answered m v) × (old ≡ decided m new old)
-  refused_as new old v r d er =
-      let d' : ¬ (m ≡ 0) = λ z. d (same ∙ z) in
-      (er ∙ ap (λ (x : ℕ). answer x 0 0) same ∙ sym (answered_not m v d'), sym (decided_old m new old d'))
 
   -- what is accepted
   pub accepted_as : {A : Type 0} (new old t : A) (v : ℕ) (r : Answer) → k ≡ 0 → r ≡ answer 0 0 v → t ≡ new → (r ≡ answered m v) × (t ≡ decided m new old)

@@ -5,7 +5,6 @@ use Prim.Native.Nat.{ℕ, ◌+◌, ◌*◌, ◌<◌}
 use native.Mathlib.Decide.{ℕ_discrete}
 use native.Mathlib.Omega.{arith}
 use lib.ListN.{length, get_or, replicate, length-replicate, get_or-replicate}
-use lib.Seq.{ext_get_or}
 use Rattle.sums.specs.Sum.{delta}
 use Rattle.sums.proofs.SumLaws.{delta_refl, delta_diff}
 use Rattle.sheet_theory.specs.Layout.{size, count_at, empty_sheet}
@@ -13,16 +12,6 @@ use Rattle.sheet.specs.Fill.{puts}
 use Rattle.sheet.specs.Internal.{diagonal_at}
 use Rattle.sheet.proofs.FillLaws.{length_puts, puts_in, puts_out}
 use Rattle.sheet_theory.proofs.LayoutLaws.{counts_within, row_counts, from_within, place_only, redone_ext}
-
--- words of which each is set to 0 are zeros
-pub zeros_filled : (m : ℕ) (s w : List ℕ) (k : ℕ) → length s ≡ m → w ≡ puts s (λ (j : ℕ). j) (λ (j : ℕ). 0) k → k ≡ m → w ≡ replicate m 0
-zeros_filled m s w k es ew ek =
-    let long : length w ≡ m = ap length ew ∙ length_puts s (λ j. j) (λ j. 0) k ∙ es in
-    ext_get_or 0 w (replicate m 0) (long ∙ sym (length-replicate {A = ℕ} m 0))
-    (λ j q.
-    ap (λ (l : List ℕ). get_or l j 0) ew
-    ∙ puts_in s (λ i. i) (λ i. 0) k j (omega arith) (omega arith) (λ i x y e. omega arith)
-    ∙ sym (get_or-replicate {A = ℕ} m j 0 0 (omega arith)))
 
 module _ (n : ℕ) (w t : List ℕ) (ew : w ≡ replicate (size n) 0) (et : t ≡ puts w (diagonal_at n) (λ (k : ℕ). 1) n) where
   -- a place that is on no diagonal

@@ -2,10 +2,9 @@
 use mathlib.Core.Path.{◌≡◌, sym, ◌∙◌}
 use mathlib.Core.Bool.{Bool, true, false}
 use mathlib.Core.List.{List}
-use Prim.Native.Nat.{ℕ, ◌+◌, ◌^◌, ◌≤◌, ◌<◌}
-use native.Mathlib.Decide.{ℕ_discrete}
+use Prim.Native.Nat.{ℕ, ◌^◌, ◌≤◌, ◌<◌}
 use native.Mathlib.Omega.{arith}
-use borrow.Author.Tests.{ltb-true, ltb-false}
+use borrow.Author.Tests.{ltb-false}
 use lib.Dec.{ltb}
 use Rattle.answer.specs.Table.{Reflects}
 use Rattle.sheet_theory.specs.Layout.{row_at}
@@ -22,9 +21,6 @@ rows_below n s t r e = (rows_iff n s).0 ((reflects_false r).0 e)
 module _ (n : ℕ) (s : List ℕ) where
   pub stray_found : (i : ℕ) (t : Bool) → i < n → t ≡ ltb (row_at s i) (2 ^ n) → t ≡ false → Reflects true (StrayRow n s)
   stray_found i t hi e z = reflects_true (i, hi, (stray_iff n (row_at s i)).1 (ltb-false _ _ (sym e ∙ z)))
-
-  pub stray_more : (i : ℕ) (t : Bool) → ((k : ℕ) → k < i → row_at s k < 2 ^ n) → t ≡ ltb (row_at s i) (2 ^ n) → t ≡ true → (k : ℕ) → k < i + 1 → row_at s k < 2 ^ n
-  stray_more i t h e z k q = elim (ℕ_discrete k i) [ yes o ↦ rw o (ltb-true _ _ (sym e ∙ z)) | no d ↦ h k (omega arith) ]
 
   pub stray_none : (i : ℕ) → ((k : ℕ) → k < i → row_at s k < 2 ^ n) → n ≤ i → Reflects false (StrayRow n s)
   stray_none i h q = reflects_none ((rows_iff n s).1 (λ k l. h k (omega arith)))

@@ -16,11 +16,8 @@ use Rattle.word.proofs.VisitLaws.{Visiting, Passes, visiting_start, visiting_mor
 use Rattle.sheet_theory.specs.Layout.{counts_from, count_at}
 use Rattle.sheet_theory.proofs.LayoutLaws.{place_apart}
 use Rattle.sheet.specs.Fill.{over}
-use Rattle.sheet.specs.Internal.{CountsFrom, Place, combined, SumsBy, CountsSummed, with_counts}
+use Rattle.sheet.specs.Internal.{CountsFrom, combined, SumsBy, CountsSummed, with_counts}
 use Rattle.sheet.proofs.FillLaws.{length_puts, puts_in, puts_change, puts_cong, over_in, over_out}
-
-pub place_count : (n : ℕ) (s : List ℕ) (i j p : ℕ) → Place n i j p → get_or s p 0 ≡ count_at n s i j
-place_count n s i j p at = ap (λ x. get_or s x 0) at.is
 
 -- the words from the first count from i on are the counts from i
 pub base_count : (n : ℕ) (s : List ℕ) (i base : ℕ) → CountsFrom n i base → (j : ℕ) → get_or s (base + j) 0 ≡ count_at n s i j

@@ -6,12 +6,12 @@ ghost use Rattle.answer.specs.Table.{First, Reflects};
 ghost use Rattle.sheet_theory.specs.Layout.{Shape, row_at, count_at, set_bits};
 ghost use Rattle.sheet_theory.specs.Lent.{lent};
 ghost use Rattle.sheet_theory.specs.Conditions.{StrayRow, vertex_conditions, sized};
-ghost use Rattle.sheet.specs.Internal.{CountsFrom, CountsOf, SumsBy, CountsSummed};
+ghost use Rattle.sheet.specs.Internal.{CountsFrom, CountsOf, SumsBy};
 
 use crate::layout::Sheet;
 use crate::{layout, words};
 use answer::Refusal;
-use word::{Bits, Combine, Plus};
+use word::{Bits, Combine};
 
 // A sheet of n vertices, lent to be read.
 #[derive(Clone, Copy)]
@@ -121,15 +121,5 @@ impl<'a> View<'a> {
             let from = self.from(b) + c;
             words::combine_words::<C>(&self.words[from..from + w], t);
         }
-    }
-
-    // Internal: for each j below n, the sum of the counts to j from the vertices of the mask, modulo 2^64.
-    pub fn sum_counts(self, mask: u64) -> [u64; Sheet::VERTICES]
-        requires { mask < 2 ^ self.n }
-        ensures { CountsSummed self.entry.n self.entry.words.now mask result }
-    {
-        let mut t = [0u64; Sheet::VERTICES];
-        self.combine_counts::<Plus>(0, self.n, mask, &mut t);
-        t
     }
 }

@@ -5,7 +5,8 @@ ghost use Rattle.sheet.specs.Internal.{combined};
 
 use word::Combine;
 
-// Internal: the first `count` words of `from`, written to `to` from base on.
+// Internal: the first `count` words of `from`, written to `to` from base on. The count stands beside the slice, since what is copied is the
+// front of a fixed array: a caller's `&array[..n]` would say the same number, and its proof would have to look through the slice.
 pub fn copy_words(count: usize, from: &[u64], to: &mut [u64], base: usize)
     requires { (count ≤ length from.now) × (base + count ≤ length to.old) }
     ensures { to.new ≡ over to.old base (λ (j : ℕ). get_or from.now j 0) count }

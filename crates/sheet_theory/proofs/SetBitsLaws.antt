@@ -18,9 +18,6 @@ pub set_bits_more : (s : List ℕ) (i x y : ℕ) → x ≡ set_bits i s → y �
 unfolding set_bits sum
 set_bits_more s i x y ex ey = rw (add-one i) (ap₂ (λ a b. a + b) ex ey)
 
-pub set_bits_done : (s : List ℕ) (i n x : ℕ) → x ≡ set_bits i s → i ≡ n → x ≡ set_bits n s
-set_bits_done s i n x ex e = rw e at ex
-
 pub set_bits_le : (s : List ℕ) (i : ℕ) → set_bits i s ≤ 64 * i
 unfolding set_bits sum
 set_bits_le s zero = omega arith

@@ -60,13 +60,6 @@ vertices_agree n i j cs ts a = (reflects_or (reflects_le n i) (reflects_le n j),
 -- ---- the check of the shape
 
 module _ (n : ℕ) (s : Lent) where
-  -- its ways out
-  pub shape_none : n < 1 → First (sized n s []) 1
-  shape_none h = inl (inl h, refl)
-
-  pub shape_many : 64 < n → First (sized n s []) 1
-  shape_many h = inl (inr h, refl)
-
   module _ (m : ℕ) (low : 1 ≤ n) (high : n ≤ 64) (em : m ≡ size n) where
     pub shape_long : (length s.words ≡ m → ⊥) → First (sized n s []) 2
     unfolding BadLength
@@ -92,20 +85,10 @@ module _ (n : ℕ) (s : Lent) where
     pub shape_refused : (k ≡ 0 → ⊥) → (cs : Conditions) → First (sized n s cs) k
     shape_refused d cs = first_more (sized n s []) cs k f d
 
-    -- 0 says that the sheet has the shape
-    pub shape_of : k ≡ 0 → Lends n s
-    shape_of z = accepted_shape [] (rw z at f)
-
 -- ---- the check of two vertices
 
 module _ (n i j : ℕ) where
-  -- its ways out
-  pub vertex_from : n ≤ i → First (vertex_conditions n i j []) 3
-  vertex_from h = inl (inl h, refl)
-
-  pub vertex_to : n ≤ j → First (vertex_conditions n i j []) 3
-  vertex_to h = inl (inr h, refl)
-
+  -- its way on
   pub vertex_good : i < n → j < n → First (vertex_conditions n i j []) 0
   vertex_good hi hj = inr (λ c. elim c [ inl l ↦ omega arith | inr l ↦ omega arith ], refl)
 
@@ -120,11 +103,3 @@ module _ (n i j : ℕ) where
 module _ (n : ℕ) (s : Lent) (i j : ℕ) where
   pub vertices_then : (k m : ℕ) → First (sized n s []) k → k ≡ 0 → First (vertex_conditions n i j []) m → First (sized n s (vertex_conditions n i j [])) m
   vertices_then k m f z g = first_after (sized n s []) (vertex_conditions n i j []) k m refl f z g
-
-  -- 0 says that the sheet has the shape and both vertices
-  pub vertices_ready : (k : ℕ) → First (sized n s (vertex_conditions n i j [])) k → k ≡ 0 → Lends n s × (i < n) × (j < n)
-  vertices_ready k f z =
-      let g : First (sized n s (vertex_conditions n i j [])) 0 = rw z at f in
-      let h = accepted_shape n s (vertex_conditions n i j []) g in
-      let below = vertex_below n i j [] (shape_rest n s h (vertex_conditions n i j []) 0 g) in
-      (h, below.0, below.1)

@@ -1,5 +1,5 @@
 -- `word::Bits::next` meets its contract: what is left once the lowest bit is cleared is less. Assumes nothing.
-use Rattle.std.proofs.Common.{◌<◌, arith, rules}
+use Rattle.std.proofs.Common.{◌<◌, rules}
 use Rattle.word.proofs.CountLaws.{lowest_cleared_lt}
 use Rattle.word.proofs.BitsIterator.next.Goals as goal
 
