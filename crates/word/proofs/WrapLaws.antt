@@ -1,5 +1,5 @@
 -- The laws of the difference modulo 2 ^ 64. Assumes nothing.
-use Rattle.std.proofs.Common.{◌≡◌, ℕ, ◌+◌, ◌^◌, ◌<◌, arith}
+use Rattle.std.proofs.Common.{◌≡◌, ℕ, ◌+◌, ◌%◌, ◌^◌, ◌<◌, arith}
 use Rattle.sums.specs.Modulo.{Congruent}
 use Rattle.word.specs.Wrap.{minus}
 
@@ -16,3 +16,7 @@ minus_add x y = omega arith
 pub minus_congruent : (r x y : ℕ) → r < 2 ^ 64 → Congruent (2 ^ 64) (r + y) x → r ≡ minus x y
 unfolding minus
 minus_congruent r x y h e = omega arith
+
+-- so it is the only one that y added to wraps back to the word x
+pub minus_only : (r x y : ℕ) → r < 2 ^ 64 → (r + y) % 2 ^ 64 ≡ x → r ≡ minus x y
+minus_only r x y h e = minus_congruent r x y h (omega arith)
