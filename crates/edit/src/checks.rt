@@ -54,6 +54,8 @@ fn meets(sheet: View, x: usize, mask: u64) -> bool
     ensures { Reflects result (Meets sheet.entry.n sheet.entry.words.now mask x) }
 {
     let counts = sheet.counts_from(x);
+
+    // A loop and not `any`: that the closure may be called at each place that comes was not proved.
     for k in Bits::of(mask) {
         if counts[k] != 0 {
             return true;

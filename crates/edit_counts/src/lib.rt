@@ -54,6 +54,7 @@ fn add_multiple(words: &mut [u64], x: u64, t: &[u64; Sheet::VERTICES])
     if x == 0 {
         return;
     }
+    // By the place and not by `zip(t)`: what is written through an adapter of `iter_mut` is not known after the loop.
     for (j, word) in words.iter_mut().enumerate() {
         *word = word::wrapping_add(*word, word::wrapping_mul(x, t[j]));
     }

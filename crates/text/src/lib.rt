@@ -4,7 +4,8 @@
 ghost use Rattle.std.specs.Prelude.{◌≡◌, ◌+◌, ◌/◌, ◌%◌, ◌≤◌, ◌<◌, length};
 ghost use Rattle.text.specs.Text.{Put};
 
-// Internal: puts some bytes into the buffer from a place on, and answers the place after them.
+// Internal: puts some bytes into the buffer from a place on, and answers the place after them. The place goes beside the buffer: a struct of both
+// would hold the `&mut`, and each contract would have to say that it keeps its reference.
 pub fn put(buffer: &mut [u8], at: usize, bytes: &[u8]) -> usize
     requires { at + length bytes.now ≤ length buffer.old }
     ensures { Put buffer.old at bytes.now buffer.new result }
