@@ -104,7 +104,7 @@ impl From<Result<u64, Refusal>> for Answer {
 }
 
 impl Answer {
-    // The outcome of a call that names no record: its value, or why it refuses.
+    // Internal: the outcome of a call that names no record: its value, or why it refuses. Of any other answer it says nothing.
     pub fn outcome(self) -> Result<u64, Refusal>
         ensures { (was : Result ℕ Refusal) → self ≡ answer_of was → result ≡ was }
     {

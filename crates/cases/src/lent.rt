@@ -4,10 +4,10 @@ use arrayvec::ArrayVec;
 use std::iter;
 
 // The words of a sheet of 65 vertices, were there one: no case lends more.
-const WORDS: usize = 4290;
+const WORDS: usize = 65 + 65 * 65;
 
 // One record more than the longest plan has: no case lends more bytes.
-const BYTES: usize = 32776;
+const BYTES: usize = plan::MOST_BYTES + 8;
 
 // What the calls are told and lent, and the words kept.
 #[derive(Drop)]

@@ -15,8 +15,10 @@ mod lines;
 pub struct Listing {}
 
 impl Listing {
-    // The bytes of a buffer in which every listing fits: 27 for the first line and for each of 64 × 64 others.
-    pub const BYTES: usize = 27 + Sheet::VERTICES * Sheet::VERTICES * 27;
+    // The most bytes that a line has.
+    pub const LINE: usize = 27;
+    // The bytes of a buffer in which every listing fits: the first line and one for each of 64 × 64 pairs.
+    pub const BYTES: usize = Listing::LINE + Sheet::VERTICES * Sheet::VERTICES * Listing::LINE;
     // What a program has to read of its input: one byte more than the longest plan, since a longer input is refused by its
     // length, whatever follows.
     pub const INPUT: usize = plan::MOST_BYTES + 1;

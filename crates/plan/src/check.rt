@@ -23,7 +23,8 @@ fn check_length(plan: &[u8]) -> Result<(), Refusal>
 pub(crate) fn check_plan(n: usize, sheet: &[u64], plan: &[u8]) -> Result<(), Refusal>
     ensures { First (read_conditions n (lent sheet.now) plan.now) (number_of result) }
 {
-    let sheet = View::of(n, sheet)?;
-    recount::check_valid(sheet)?;
+    sheet::checks::altering(n, sheet)?;
+    let lent = View { n, words: sheet };
+    recount::check_valid(lent)?;
     check_length(plan)
 }

@@ -9,7 +9,7 @@ ghost use Rattle.plan_theory.specs.PlanOf.{row_bytes, plan_of};
 use sheet::View;
 use word::Bits;
 
-// The record of the edge from i to j, from a place on: the place after it.
+// The record of the edge from i to j, from a place on: the place after it. The place goes beside the buffer, as in `text::put`.
 fn write_edge(i: usize, j: usize, plan: &mut [u8], at: usize) -> usize
     requires { (i < most_vertices) × (j < most_vertices) × (at + length (encoded insert_letter i j) ≤ length plan.old) }
     ensures { Put plan.old at (encoded insert_letter i j) plan.new result }

@@ -36,6 +36,8 @@ pub fn recount_core(n: usize, sheet: &mut [u64]) -> Result<u64, Refusal>
     if lent.has_stray_row() {
         return Err(Refusal::StrayBit);
     }
+
+    // The order is read where it was found: `ok_or` and `?` copy it, and `validate` takes a fifth longer on 10 vertices.
     let found = order::find_order(lent);
     let Some(order) = &found else {
         return Err(Refusal::Cycle);

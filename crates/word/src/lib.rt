@@ -73,7 +73,7 @@ pub fn highest_bit(mask: u64) -> usize
     requires { 0 < mask }
     ensures { Highest mask result }
 {
-    (63 - mask.leading_zeros()) as usize
+    (u64::BITS - 1 - mask.leading_zeros()) as usize
 }
 
 // Internal: mask with its lowest set bit cleared. The mask is not 0.
