@@ -1,4 +1,4 @@
-// The public calls, by the lines of the script.
+// The public calls, by the lines of the script. The numbers of a line are cast to masks and ranks: from `usize` to `u64` there is no `From`.
 use crate::command::{Command, NUMBERS};
 use crate::fault::Fault;
 use crate::lent::Lent;
@@ -13,11 +13,11 @@ fn edit(call: &Command<'_>, lent: &mut Lent) -> Option<Answer> {
         (b"empty", []) => sheet::empty(n, words),
         (b"insert_edge", &[from, to]) => edit::insert_edge(n, words, from, to),
         (b"delete_edge", &[from, to]) => edit::delete_edge(n, words, from, to),
-        (b"insert_edges_at", &[i, to, from]) => {
-            edit::insert_edges_at(n, words, i, to as u64, from as u64)
+        (b"insert_edges_at", &[v, predecessors, successors]) => {
+            edit::insert_edges_at(n, words, v, predecessors as u64, successors as u64)
         }
-        (b"delete_edges_at", &[i, to, from]) => {
-            edit::delete_edges_at(n, words, i, to as u64, from as u64)
+        (b"delete_edges_at", &[v, predecessors, successors]) => {
+            edit::delete_edges_at(n, words, v, predecessors as u64, successors as u64)
         }
         (b"recount", []) => recount::recount(n, words),
         (b"read_plan", &[count]) => plan::read_plan(n, words, lent.bytes.as_slice().get(..count)?),

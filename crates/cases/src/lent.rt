@@ -65,6 +65,7 @@ impl Lent {
         if words.len() < values.len() {
             return Err(Fault::NotACommand);
         }
+        // Numbers of a line are cast to words: from `usize` to `u64` there is no `From`.
         for (word, value) in words.iter_mut().zip(values) {
             *word = *value as u64;
         }

@@ -37,7 +37,7 @@ use lent::Lent;
 use sheet::Sheet;
 use std::io;
 
-// A command that is a name with numbers.
+// A command that is a name with numbers. Those that are words are cast: from `usize` to `u64` there is no `From`.
 fn obey_command(rt: &impl Print, line: &[u8], lent: &mut Lent) -> Result<(), Fault> {
     let command = Command::parse(line)?;
     match command.parts() {

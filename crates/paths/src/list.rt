@@ -38,6 +38,8 @@ impl Graph<'_> {
     ) -> Result<&'b [u8], Unranked> {
         let answer = query::unrank(self.vertices, self.sheet, from, to, rank, bytes);
         let count = answer.outcome()?;
+
+        // The count is cast: from `u64` to `usize` there is no `From`.
         bytes.get(..count as usize).ok_or(Unranked::Wrote(count))
     }
 

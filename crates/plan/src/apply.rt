@@ -1,4 +1,4 @@
-// The records of a plan, applied one after the other.
+// The records of a plan, applied one after the other. What writes a sheet takes n and the words: the reason stands at `View`.
 ghost use Rattle.std.specs.Prelude.{◌≡◌, ◌%◌, length};
 ghost use Rattle.answer.specs.Answers.{number_of, answer_at};
 ghost use Rattle.record.specs.Record.{record_bytes};
@@ -31,6 +31,7 @@ fn apply(n: usize, sheet: &mut [u64], plan: &[u8]) -> Result<(), RefusedAt>
     requires { length plan.now % record_bytes ≡ 0 }
     ensures { Reached (applied_plan n (lent sheet.old) plan.now) result (lent sheet.new) }
 {
+    // The place is cast: from `usize` to `u64` there is no `From`.
     for (k, record) in PlanReader::at(plan, 0).enumerate() {
         if let Err(refusal) = apply_record(n, sheet, record) {
             return Err(RefusedAt {

@@ -48,6 +48,8 @@ fn write_edges(n: usize, sheet: &[u64], plan: &mut [u8]) -> Result<u64, Refusal>
 {
     let sheet = View::of(n, sheet)?;
     recount::check_valid(sheet)?;
+
+    // Lengths are cast: from `usize` to `u64` there is no `From`.
     let bytes = Record::BYTES as u64 * sheet.set_bits();
     if (plan.len() as u64) < bytes {
         return Err(Refusal::Buffer);

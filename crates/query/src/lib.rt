@@ -83,6 +83,8 @@ fn write_walk(
     let mut aside = [0u8; Sheet::VERTICES];
     let walk = walk::walk_aside(sheet, from, to, k, &mut aside).ok_or(Refusal::NotValid)?;
     path[..walk.len()].copy_from_slice(walk);
+
+    // The length is cast: from `usize` to `u64` there is no `From`.
     Ok(walk.len() as u64)
 }
 

@@ -43,6 +43,7 @@ pub(crate) fn walk_aside<'a>(
     let mut at = from;
     let mut left = k;
     for count in 0..sheet.n {
+        // A vertex fits a byte, so the cast loses nothing; `try_from` would give an error that can't come.
         aside[count] = at as u8;
         if at == to {
             if left == 0 {

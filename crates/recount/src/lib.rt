@@ -15,7 +15,8 @@ ghost use Rattle.order.specs.Internal.{Ordered};
 
 use sheet::{Answer, Refusal, Sheet, View};
 
-// The counts, in the order given: each from those of its successors, which are earlier.
+// The counts, in the order given: each from those of its successors, which are earlier. What writes a sheet takes n and the words, here and
+// below: the reason stands at `View`.
 fn fill_counts(n: usize, sheet: &mut [u64], order: &[usize; Sheet::VERTICES])
     requires { (Shape n sheet.old) × (RowsBelow n sheet.old) × (Ordered n sheet.old order.now) }
     ensures { sheet.new ≡ counted n sheet.old }

@@ -60,7 +60,8 @@ pub fn low_bits(n: usize) -> u64
     (1 << n) - 1
 }
 
-// Internal: the place of the lowest bit of mask that is set. The mask is not 0.
+// Internal: the place of the lowest bit of mask that is set. The mask is not 0. It is cast, here and in the next function: from `u32` to
+// `usize` there is no `From`.
 pub fn lowest_bit(mask: u64) -> usize
     requires { 0 < mask }
     ensures { Lowest mask result }
