@@ -13,8 +13,8 @@ use crate::{layout, words};
 use answer::Refusal;
 use word::{Bits, Combine};
 
-// A sheet of n vertices, lent to be read. A sheet that is written is lent as n and its words: a struct that held the `&mut` would have to say
-// in the contract of each function that it keeps the same reference and the same n.
+// A sheet of n vertices, lent to be read. A sheet that is written is lent as n and its words: a struct that held the `&mut` would have to
+// say in the contract of each function that it keeps the same reference and the same n.
 #[derive(Clone, Copy)]
 pub struct View<'a> {
     pub n: usize,
