@@ -97,6 +97,7 @@ impl EdgesAt {
         requires { sheet.n ≡ self.n }
         ensures { u.new ≡ with_factors self.inserts sheet.entry.n sheet.entry.words.now self.v t.now u.old }
     {
+        // By the place, for the reason at `add_multiple`.
         for (j, y) in sheet.counts_from(self.v).iter().enumerate() {
             u[j] = from_factor(self.inserts, t[j], *y);
         }

@@ -1,6 +1,12 @@
--- The laws of a part of a list, from the place a to the place b. Assumes nothing.
+-- The laws of a part of a list, from the place a to the place b, and of the rows of a sheet. Assumes nothing.
 use Rattle.std.proofs.Common.{◌≡◌, ◌⊎◌, inl, inr, ℕ, ◌+◌, ◌-◌, ◌≤◌, ◌<◌, List, ◌++◌, length, get_or, take, drop, ◌∙◌, length-drop, length-take-le, get_or-drop, get_or-take, arith}
 use Rattle.std.proofs.lemmas.Grind.{common_steps}
+use Rattle.sheet_theory.specs.Layout.{Shape}
+use Rattle.sheet_theory.proofs.LayoutLaws.{rows_within}
+
+-- the rows of a sheet of n vertices are n
+pub rows_taken : {n : ℕ} {s : List ℕ} → Shape n s → length (take n s) ≡ n
+rows_taken {n} {s} h = length-take-le n s (rows_within h)
 
 module _ (l : List ℕ) (a b : ℕ) (h : b ≤ length l) where
   pub part_long : a ≤ b → length (take (b - a) (drop a l)) ≡ b - a

@@ -93,8 +93,8 @@ impl<'a> View<'a> {
     pub fn has_stray_row(self) -> bool
         ensures { Reflects result (StrayRow self.entry.n self.entry.words.now) }
     {
-        for i in 0..self.n {
-            if !word::within(self.words[i], self.n) {
+        for row in &self.words[..self.n] {
+            if !word::within(*row, self.n) {
                 return true;
             }
         }
@@ -106,8 +106,8 @@ impl<'a> View<'a> {
         ensures { result ≡ set_bits self.entry.n self.entry.words.now }
     {
         let mut total = 0;
-        for i in 0..self.n {
-            total += word::count_bits(self.words[i]);
+        for row in &self.words[..self.n] {
+            total += word::count_bits(*row);
         }
         total
     }

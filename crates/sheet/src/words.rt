@@ -19,6 +19,7 @@ pub fn combine_words<C: Combine>(words: &[u64], t: &mut [u64])
     requires { length words.now ≤ length t.old }
     ensures { t.new ≡ combined C.op (length words.now) words.now t.old }
 {
+    // By the place and not by `t.iter_mut().zip(words)`: what is written through an adapter of `iter_mut` is not known after the loop.
     for (j, x) in words.iter().enumerate() {
         t[j] = C::combine(t[j], *x);
     }

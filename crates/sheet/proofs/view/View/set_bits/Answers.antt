@@ -1,20 +1,31 @@
 -- `sheet::View::set_bits` meets its contract: the total of a sheet fits a word. Assumes nothing.
-use Rattle.std.proofs.Common.{get_or, arith}
+use Rattle.std.proofs.Common.{ℕ, sym, ap, ◌∙◌, get_or-take, arith}
 use Rattle.word.proofs.CountLaws.{bit_count_le}
+use Rattle.sheet_theory.specs.Layout.{set_bits, row_at}
 use Rattle.sheet_theory.proofs.SetBitsLaws.{set_bits_zero, set_bits_more, set_bits_le}
-use Rattle.sheet_theory.proofs.LayoutLaws.{rows_within}
+use Rattle.sheet.proofs.SliceLaws.{rows_taken}
 use Rattle.sheet.proofs.view.View.set_bits.Goals as goal
 
-pub loop-i-init : goal.loop-i-init
-loop-i-init c = set_bits_zero _
+pub slice_bounds-row-items-end : goal.slice_bounds-row-items-end
+slice_bounds-row-items-end c = sym (rows_taken c.args.self.shape)
 
-pub bounds-self-i : goal.bounds-self-i
-bounds-self-i c = omega (arith, rows_within c.args.self.shape)
+pub loop-row-init : goal.loop-row-init
+loop-row-init c = set_bits_zero _
 
 pub overflow_add-total : goal.overflow_add-total
 overflow_add-total c =
-    let s = c.args.self.words.now in
-    omega (arith, set_bits_le s c.loop-i.i, bit_count_le (get_or s c.loop-i.i 0), c.args.self.shape)
+    let v = c.args.self in
+    let k = c.loop-row.row-index in
+    let e = get_or-take v.n v.words.now k 0 (omega (arith, rows_taken v.shape)) in
+    omega (arith, set_bits_le v.words.now k, bit_count_le (row_at v.words.now k), rw e at c.count_bits-total.ensures, rows_taken v.shape, v.shape)
 
-pub loop-i-preserved : goal.loop-i-preserved
-loop-i-preserved c = search set_bits_more
+pub loop-row-preserved : goal.loop-row-preserved
+loop-row-preserved c =
+    let v = c.args.self in
+    let e = get_or-take v.n v.words.now c.loop-row.row-index 0 (omega (arith, rows_taken v.shape)) in
+    set_bits_more _ _ _ _ c.loop-row.invariant (rw e at c.count_bits-total.ensures)
+
+pub returns : goal.returns
+returns c =
+    let v = c.args.self in
+    c.loop-row.invariant ∙ ap (λ (k : ℕ). set_bits k v.words.now) (omega (arith, rows_taken v.shape))

@@ -3,5 +3,5 @@ use Rattle.std.proofs.Common.{◌≡◌}
 use Rattle.sheet_theory.specs.Layout.{set_bits}
 use Rattle.sheet.proofs.view.View.set_bits.Given as goal
 
-abbrev pub invariant-loop-i : goal.invariant-loop-i
-invariant-loop-i l = l.total ≡ set_bits l.i l.self.words.now
+abbrev pub invariant-loop-row : goal.invariant-loop-row
+invariant-loop-row l = l.total ≡ set_bits l.row-index l.self.words.now
