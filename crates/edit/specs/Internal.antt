@@ -7,12 +7,22 @@ use Rattle.answer.specs.Answers.{decided, answered}
 use Rattle.sheet_theory.specs.Layout.{count_at, set_bits, redone}
 use Rattle.sheet_theory.specs.Lent.{Lent}
 use Rattle.edit_counts.specs.declared.edges.EdgesAt.{EdgesAt}
-use Rattle.edit_theory.specs.Edit.{at, Edit, edges_edit, one_if, marked}
+use Rattle.edit.specs.declared.Named.{Named}
+use Rattle.edit.specs.declared.Named.TheVariants.{One, At}
+use Rattle.edit_theory.specs.Edit.{Edges, one, at, Edit, edges_edit, one_if, marked}
 use Rattle.edit_theory.specs.Book.{opened}
 use Rattle.edit_theory.specs.Table.{SomeOf, most_parallel, effects}
 use Rattle.edit_theory.specs.Outcome.{edited_row, edited, edit_grounds, edit_words, edit_made}
 
 -- ---- the core
+
+-- the edges that are named, and the edit that inserts or deletes them
+abbrev pub edges_of : Named → Edges
+edges_of (One u v) = one u v
+edges_of (At v predecessors successors) = at v predecessors successors
+
+abbrev pub edit_of : Bool → ℕ → Named → Edit
+edit_of inserts n named = record { inserts = inserts; vertices = n; edges = edges_of named }
 
 -- k is the number of the first condition on s that holds, from 5 on, of the edit at v by the masks a and b
 unfoldable pub EditNumber : Bool → ℕ → Lent → ℕ → ℕ → ℕ → ℕ → Type 0
