@@ -1,5 +1,5 @@
 -- What the internal functions ask and promise. No public call's contract cites these. Definitions only. Assumes nothing.
-use Rattle.std.specs.Prelude.{◌≡◌, ◌↔◌, Bool, List, ℕ, ◌<◌}
+use Rattle.std.specs.Prelude.{◌≡◌, ◌↔◌, Bool, true, false, List, ℕ, ◌<◌}
 use Rattle.word.specs.Bit.{word_bits, bit, has_bit}
 use Rattle.answer.specs.declared.Answer.{Answer}
 use Rattle.answer.specs.Table.{First}
@@ -49,6 +49,11 @@ MadeAt x s r t =
 -- the bits of r are those of the row at which an edge would be refused: set where an insertion finds an edge and a deletion none
 abbrev pub RefusedBits : Bool → ℕ → ℕ → Type 0
 RefusedBits inserts row r = (j : ℕ) → j < word_bits → (bit r j ≡ 1) ↔ (bit row j ≡ one_if inserts)
+
+-- where Test k t says that a test answers t at the place k: r says whether it passes some place of the mask
+pub record Tells (mask : ℕ) (Test : ℕ → Bool → Type 0) (r : Bool) : Type 0 where
+  pub passes : r ≡ true → (k : ℕ) × (bit mask k ≡ 1) × Test k true
+  pub fail : r ≡ false → (k : ℕ) → bit mask k ≡ 1 → Test k false
 
 -- a count from x to a vertex of the mask is not 0
 abbrev pub Meets : ℕ → List ℕ → ℕ → ℕ → Type 0
