@@ -9,7 +9,6 @@ use native.Mathlib.Decide.{ℕ_discrete}
 use native.Mathlib.Omega.{arith}
 use lib.Bits.{bit_and}
 use lib.Dec.{eqb}
-use lib.ListN.{get_or}
 use Rattle.word.specs.Bit.{bit, has_bit, with_bit}
 use Rattle.word.proofs.BitLaws.{bit_lt, bit_set_same, bit_set_other, has_true, has_false}
 use Rattle.word.proofs.MaskLaws.{bit_not, and_zero, and_some}
@@ -17,7 +16,6 @@ use Rattle.graph.specs.Update.{into, out, through, Closes}
 use Rattle.answer.specs.Table.{Reflects}
 use Rattle.sheet_theory.specs.Layout.{row_at, count_at, edge_at}
 use Rattle.sheet_theory.specs.Lent.{Lent, mult_at}
-use Rattle.sheet.specs.Internal.{CountsOf}
 use Rattle.answer.proofs.TableLaws.{reflects_true, reflects_iff, reflects_not, reflects_eq, reflects_false}
 use Rattle.edit_theory.specs.Edit.{at, one_if}
 use Rattle.edit_theory.specs.Table.{SomeEdge, SomeOf, most_parallel}
@@ -62,15 +60,6 @@ module _ (inserts : Bool) (n : ℕ) (s : List ℕ) (v a b : ℕ) where
           (λ o. (reflects_false p).0 e (i, hi, o.0, rw o.1 at x))
           (λ o. omega (arith, and_zero b r z j o.1, (c j (omega arith)).1 (rw o.0 at x)))
           (named_of v a b i j q)
-
--- ---- meets: l has the counts from x
-
-module _ (n : ℕ) (s : List ℕ) (x k : ℕ) (l : List ℕ) (from : CountsOf n s x l) (h : k < n) where
-  pub count_some : (get_or l k 0 ≡ 0 → ⊥) → 0 < count_at n s x k
-  count_some d = elim (ℕ_discrete (count_at n s x k) 0) [ yes e ↦ absurd (d (from.counts k h ∙ e)) | no q ↦ omega (arith, q) ]
-
-  pub count_none : get_or l k 0 ≡ 0 → ¬ (0 < count_at n s x k)
-  count_none e q = omega (arith, from.counts k h)
 
 -- ---- closes_cycle
 

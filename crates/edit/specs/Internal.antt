@@ -1,5 +1,5 @@
 -- What the internal functions ask and promise. No public call's contract cites these. Definitions only. Assumes nothing.
-use Rattle.std.specs.Prelude.{◌≡◌, ◌↔◌, Bool, List, ℕ, ◌<◌}
+use Rattle.std.specs.Prelude.{◌≡◌, ◌↔◌, Bool, true, false, List, ℕ, ◌<◌}
 use Rattle.word.specs.Bit.{word_bits, bit, has_bit}
 use Rattle.answer.specs.declared.Answer.{Answer}
 use Rattle.answer.specs.Table.{First}
@@ -7,12 +7,22 @@ use Rattle.answer.specs.Answers.{decided, answered}
 use Rattle.sheet_theory.specs.Layout.{count_at, set_bits, redone}
 use Rattle.sheet_theory.specs.Lent.{Lent}
 use Rattle.edit_counts.specs.declared.edges.EdgesAt.{EdgesAt}
-use Rattle.edit_theory.specs.Edit.{at, Edit, edges_edit, one_if, marked}
+use Rattle.edit.specs.declared.Named.{Named}
+use Rattle.edit.specs.declared.Named.TheVariants.{One, At}
+use Rattle.edit_theory.specs.Edit.{Edges, one, at, Edit, edges_edit, one_if, marked}
 use Rattle.edit_theory.specs.Book.{opened}
 use Rattle.edit_theory.specs.Table.{SomeOf, most_parallel, effects}
 use Rattle.edit_theory.specs.Outcome.{edited_row, edited, edit_grounds, edit_words, edit_made}
 
 -- ---- the core
+
+-- the edges that are named, and the edit that inserts or deletes them
+abbrev pub edges_of : Named → Edges
+edges_of (One u v) = one u v
+edges_of (At v predecessors successors) = at v predecessors successors
+
+abbrev pub edit_of : Bool → ℕ → Named → Edit
+edit_of inserts n named = record { inserts = inserts; vertices = n; edges = edges_of named }
 
 -- k is the number of the first condition on s that holds, from 5 on, of the edit at v by the masks a and b
 unfoldable pub EditNumber : Bool → ℕ → Lent → ℕ → ℕ → ℕ → ℕ → Type 0
@@ -39,6 +49,11 @@ MadeAt x s r t =
 -- the bits of r are those of the row at which an edge would be refused: set where an insertion finds an edge and a deletion none
 abbrev pub RefusedBits : Bool → ℕ → ℕ → Type 0
 RefusedBits inserts row r = (j : ℕ) → j < word_bits → (bit r j ≡ 1) ↔ (bit row j ≡ one_if inserts)
+
+-- where Test k t says that a test answers t at the place k: r says whether it passes some place of the mask
+pub record Tells (mask : ℕ) (Test : ℕ → Bool → Type 0) (r : Bool) : Type 0 where
+  pub passes : r ≡ true → (k : ℕ) × (bit mask k ≡ 1) × Test k true
+  pub fail : r ≡ false → (k : ℕ) → bit mask k ≡ 1 → Test k false
 
 -- a count from x to a vertex of the mask is not 0
 abbrev pub Meets : ℕ → List ℕ → ℕ → ℕ → Type 0

@@ -8,7 +8,7 @@ ghost use Rattle.sheet_theory.specs.Layout.{count_at, edge_at};
 ghost use Rattle.sheet_theory.specs.Lent.{lent};
 ghost use Rattle.edit_theory.specs.Edit.{at, one_if};
 ghost use Rattle.edit_theory.specs.Table.{SomeEdge, SomeOf};
-ghost use Rattle.edit.specs.Internal.{EditNumber, RefusedBits, Meets};
+ghost use Rattle.edit.specs.Internal.{EditNumber, RefusedBits, Tells, Meets};
 
 use edit_counts::EdgesAt;
 use sheet::{Refusal, View};
@@ -24,17 +24,28 @@ fn refused_bits(inserts: bool, row: u64) -> u64
     !row
 }
 
+// Whether the test holds of some place of the mask.
+fn some_of<F: Fn(usize) -> bool>(mask: u64, test: F) -> bool
+    requires { (k : ℕ) → bit mask k ≡ 1 → F.pre test k }
+    ensures { Tells mask (F.post test) result }
+{
+    for k in Bits::of(mask) {
+        if test(k) {
+            return true;
+        }
+    }
+    false
+}
+
 // Whether an insertion finds one of the edges to v, or a deletion misses one.
 fn some_into(edges: EdgesAt, sheet: View) -> bool
     requires { sheet.n ≡ edges.n }
     ensures { Reflects result (SomeOf sheet.entry.n edges.predecessors (λ (i : ℕ). edge_at sheet.entry.words.now i edges.v ≡ one_if edges.inserts)) }
 {
-    for i in Bits::of(edges.predecessors) {
-        if word::test_bit(refused_bits(edges.inserts, sheet.row(i)), edges.v) {
-            return true;
-        }
-    }
-    false
+    some_of(
+        edges.predecessors,
+        |i| word::test_bit(refused_bits(edges.inserts, sheet.row(i)), edges.v),
+    )
 }
 
 // Whether an insertion finds one of the edges, or a deletion misses one.
@@ -54,14 +65,7 @@ fn meets(sheet: View, x: usize, mask: u64) -> bool
     ensures { Reflects result (Meets sheet.entry.n sheet.entry.words.now mask x) }
 {
     let counts = sheet.counts_from(x);
-
-    // A loop and not `any`: that the closure may be called at each place that comes was not proved.
-    for k in Bits::of(mask) {
-        if counts[k] != 0 {
-            return true;
-        }
-    }
-    false
+    some_of(mask, |k| counts[k] != 0)
 }
 
 // Whether a count from a vertex of the one mask to a vertex of the other is not 0.
@@ -69,12 +73,7 @@ fn some_meets(sheet: View, starts: u64, ends: u64) -> bool
     requires { (starts < 2 ^ sheet.n) × (ends < 2 ^ sheet.n) }
     ensures { Reflects result (SomeOf sheet.entry.n starts (Meets sheet.entry.n sheet.entry.words.now ends)) }
 {
-    for x in Bits::of(starts) {
-        if meets(sheet, x, ends) {
-            return true;
-        }
-    }
-    false
+    some_of(starts, |x| meets(sheet, x, ends))
 }
 
 // Whether the counts show a path that the edges would close to a cycle: from v to a predecessor, or from a successor to v or to a

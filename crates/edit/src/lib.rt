@@ -3,13 +3,16 @@
 // rows afterwards.
 #![tactic(auto)]
 
-ghost use Rattle.std.specs.Prelude.{◌≡◌};
-ghost use Rattle.answer.specs.Answers.{answer_of};
-ghost use Rattle.sheet_theory.specs.Layout.{Shape};
+ghost use Rattle.std.specs.Prelude.{◌≡◌, ◌≤◌, [], IfOk};
+ghost use Rattle.answer.specs.Table.{First};
+ghost use Rattle.answer.specs.Answers.{answer_of, number_of};
+ghost use Rattle.sheet_theory.specs.Layout.{most_vertices, Shape};
 ghost use Rattle.sheet_theory.specs.Lent.{lent};
-ghost use Rattle.edit_theory.specs.Edit.{edge_edit, edges_edit, insert_edge, delete_edge, insert_edges_at, delete_edges_at};
+ghost use Rattle.edit_theory.specs.Edit.{edge_edit, insert_edge, delete_edge, insert_edges_at, delete_edges_at};
+ghost use Rattle.edit_theory.specs.Table.{argued};
 ghost use Rattle.edit_theory.specs.Outcome.{edit_answer, edit_after};
-ghost use Rattle.edit.specs.Internal.{Written, MadeAt};
+ghost use Rattle.edit_counts.specs.Internal.{Names};
+ghost use Rattle.edit.specs.Internal.{Written, MadeAt, edges_of, edit_of};
 
 mod checks;
 mod rows;
@@ -31,6 +34,31 @@ fn write_edit(edges: EdgesAt, sheet: &mut [u64]) -> u64
     lent.set_bits()
 }
 
+// The edges of an edit as they arrive. Nothing is checked yet.
+#[derive(Clone, Copy)]
+enum Named {
+    // The one from the first vertex to the second.
+    One(usize, usize),
+    // At a vertex, those from the vertices of the first mask and those to the vertices of the second.
+    At(usize, u64, u64),
+}
+
+impl Named {
+    // The same edges, once n is known to be at most 64. Or why they are refused, 3 or 4.
+    fn edges(self, inserts: bool, n: usize) -> Result<EdgesAt, Refusal>
+        requires { n ≤ most_vertices }
+        ensures number { First (argued n (edges_of self) []) (number_of result) }
+        ensures edges { IfOk result (λ e. Names (edit_of inserts n self) e.inserts e.n e.v e.predecessors e.successors) }
+    {
+        match self {
+            Named::One(from, to) => EdgesAt::edge(inserts, n, from, to),
+            Named::At(v, predecessors, successors) => {
+                EdgesAt::masks(inserts, n, v, predecessors, successors)
+            }
+        }
+    }
+}
+
 // The edit, once 1 to 4 are past: refused by 5, 6, 8 or by 7, else made.
 fn edit_at(edges: EdgesAt, sheet: &mut [u64]) -> Result<u64, Refusal>
     requires { Shape edges.n sheet.old }
@@ -44,8 +72,17 @@ fn edit_at(edges: EdgesAt, sheet: &mut [u64]) -> Result<u64, Refusal>
     Ok(write_edit(edges, sheet))
 }
 
-// Internal: one edge, inserted or deleted. The next function is the same but for the arguments that name the edges, which can't be looked
-// at before n is known to be at most 64.
+// The edges that are named, inserted or deleted.
+fn edit_named(inserts: bool, n: usize, sheet: &mut [u64], named: Named) -> Result<u64, Refusal>
+    ensures answer { answer_of result ≡ edit_answer (edit_of inserts n named) (lent sheet.old) }
+    ensures words { lent sheet.new ≡ edit_after (edit_of inserts n named) (lent sheet.old) }
+{
+    sheet::checks::altering(n, sheet)?;
+    let edges = named.edges(inserts, n)?;
+    edit_at(edges, sheet)
+}
+
+// Internal: one edge, inserted or deleted.
 pub fn edit_edge(
     inserts: bool,
     n: usize,
@@ -56,26 +93,7 @@ pub fn edit_edge(
     ensures answer { answer_of result ≡ edit_answer (edge_edit inserts n from to) (lent sheet.old) }
     ensures words { lent sheet.new ≡ edit_after (edge_edit inserts n from to) (lent sheet.old) }
 {
-    sheet::checks::altering(n, sheet)?;
-    let edges = EdgesAt::edge(inserts, n, from, to)?;
-    edit_at(edges, sheet)
-}
-
-// The edges at v by masks, inserted or deleted.
-fn edit_edges_at(
-    inserts: bool,
-    n: usize,
-    sheet: &mut [u64],
-    v: usize,
-    predecessors: u64,
-    successors: u64,
-) -> Result<u64, Refusal>
-    ensures answer { answer_of result ≡ edit_answer (edges_edit inserts n v predecessors successors) (lent sheet.old) }
-    ensures words { lent sheet.new ≡ edit_after (edges_edit inserts n v predecessors successors) (lent sheet.old) }
-{
-    sheet::checks::altering(n, sheet)?;
-    let edges = EdgesAt::masks(inserts, n, v, predecessors, successors)?;
-    edit_at(edges, sheet)
+    edit_named(inserts, n, sheet, Named::One(from, to))
 }
 
 // The edge from one vertex to another, inserted. Refused by 1, 2, 3, 5, 6, 8.
@@ -106,7 +124,7 @@ pub fn insert_edges_at(
     ensures answer { result ≡ edit_answer (insert_edges_at n v predecessors successors) (lent sheet.old) }
     ensures words { lent sheet.new ≡ edit_after (insert_edges_at n v predecessors successors) (lent sheet.old) }
 {
-    edit_edges_at(true, n, sheet, v, predecessors, successors).into()
+    edit_named(true, n, sheet, Named::At(v, predecessors, successors)).into()
 }
 
 // The same edges, deleted all at once. Refused by 1, 2, 3, 4, 7.
@@ -120,5 +138,5 @@ pub fn delete_edges_at(
     ensures answer { result ≡ edit_answer (delete_edges_at n v predecessors successors) (lent sheet.old) }
     ensures words { lent sheet.new ≡ edit_after (delete_edges_at n v predecessors successors) (lent sheet.old) }
 {
-    edit_edges_at(false, n, sheet, v, predecessors, successors).into()
+    edit_named(false, n, sheet, Named::At(v, predecessors, successors)).into()
 }
