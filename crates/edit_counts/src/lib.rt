@@ -67,7 +67,7 @@ impl EdgesAt {
         ensures { sheet.new ≡ counts_by self.inserts self.n sheet.old self.v 0 t.now }
     {
         for i in 0..self.n {
-            let from = sheet::layout::counts_from(self.n, i);
+            let from = sheet::layout::counts_start(self.n, i);
             let counts = &mut sheet[from..from + self.n];
             let x = counts[self.v];
             add_multiple(counts, to_factor(self.inserts, x, 0), t);
@@ -115,7 +115,7 @@ impl EdgesAt {
         let mut u = [0u64; Sheet::VERTICES];
         self.from_factors(lent, t, &mut u);
         for i in 0..self.n {
-            let from = sheet::layout::counts_from(self.n, i);
+            let from = sheet::layout::counts_start(self.n, i);
             self.edit_counts_from(&mut sheet[from..from + self.n], t, &u);
         }
     }

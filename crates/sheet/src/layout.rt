@@ -54,7 +54,7 @@ pub fn word_count(n: usize) -> usize
 }
 
 // Internal: where the counts from vertex i begin.
-pub fn counts_from(n: usize, i: usize) -> usize
+pub fn counts_start(n: usize, i: usize) -> usize
     requires { (n ≤ most_vertices) × (i < n) }
     ensures { CountsFrom n i result }
 {
@@ -66,5 +66,5 @@ pub(crate) fn count_place(n: usize, i: usize, j: usize) -> usize
     requires { (n ≤ most_vertices) × (i < n) × (j < n) }
     ensures { Place n i j result }
 {
-    counts_from(n, i) + j
+    counts_start(n, i) + j
 }

@@ -65,11 +65,11 @@ impl<'a> View<'a> {
     }
 
     // Internal: where the counts from vertex i begin.
-    pub fn from(self, i: usize) -> usize
+    pub fn counts_start(self, i: usize) -> usize
         requires { i < self.n }
         ensures { CountsFrom self.entry.n i result }
     {
-        layout::counts_from(self.n, i)
+        layout::counts_start(self.n, i)
     }
 
     // Internal: the counts from vertex i.
@@ -77,7 +77,7 @@ impl<'a> View<'a> {
         requires { i < self.n }
         ensures { CountsOf self.entry.n self.entry.words.now i result.now }
     {
-        let from = self.from(i);
+        let from = self.counts_start(i);
         &self.words[from..from + self.n]
     }
 
@@ -86,7 +86,7 @@ impl<'a> View<'a> {
         requires { (i < self.n) × (j < self.n) }
         ensures { result ≡ count_at self.entry.n self.entry.words.now i j }
     {
-        self.words[self.from(i) + j]
+        self.words[self.counts_start(i) + j]
     }
 
     // Internal: whether a row has a bit at n or above.
@@ -119,7 +119,7 @@ impl<'a> View<'a> {
         ensures { SumsBy C.op self.entry.n self.entry.words.now c w mask t.old t.new self.entry.n }
     {
         for b in Bits::of(mask) {
-            let from = self.from(b) + c;
+            let from = self.counts_start(b) + c;
             words::combine_words::<C>(&self.words[from..from + w], t);
         }
     }

@@ -5,8 +5,8 @@ use Rattle.edit_counts.proofs.edges.EdgesAt.edit_to.Goals as goal
 
 pub loop-i-preserved : goal.loop-i-preserved
 loop-i-preserved c =
-    let lent = editing_lent _ _ _ _ _ _ c.requires _ _ c.loop-i.invariant (omega arith) _ c.counts_from-from.ensures in
-    editing_more _ _ _ _ _ _ c.requires _ _ c.loop-i.invariant (omega arith) _ c.counts_from-from.ensures _ _
+    let lent = editing_lent _ _ _ _ _ _ c.requires _ _ c.loop-i.invariant (omega arith) _ c.counts_start-from.ensures in
+    editing_more _ _ _ _ _ _ c.requires _ _ c.loop-i.invariant (omega arith) _ c.counts_start-from.ensures _ _
     (edited_alone _ _ _ _ _ _ _ _ c.args.self.vertex_fits lent _ _ _ refl c.to_factor.ensures lent.long c.add_multiple.ensures)
 
 pub returns : goal.returns

@@ -8,14 +8,14 @@ use Rattle.sheet.proofs.view.View.combine_counts.Goals as goal
 pub loop-b-init : goal.loop-b-init
 loop-b-init g c = search (rules, summing_start g.C.Combine.wraps)
 
-pub from-requires : goal.from-requires
-from-requires g c = lowest_lt _ _ _ c.in-Some.ensures.steps.0 c.loop-b.invariant.below
+pub counts_start-requires : goal.counts_start-requires
+counts_start-requires g c = lowest_lt _ _ _ c.in-Some.ensures.steps.0 c.loop-b.invariant.below
 
 pub loop-b-preserved : goal.loop-b-preserved
 loop-b-preserved g c =
-    let within : c.from.result + c.args.c + c.args.w ≤ length c.args.self.words.now = omega (arith, c.from.ensures.within, c.args.self.shape.long) in
+    let within : c.counts_start.result + c.args.c + c.args.w ≤ length c.args.self.words.now = omega (arith, c.counts_start.ensures.within, c.args.self.shape.long) in
     summing_next g.C.Combine.wraps _ _ _ _ _ _ _ _ _ _ _ _ _ c.requires.2 c.loop-b.invariant c.in-Some.ensures.steps.0
-    (λ j h. part_at _ _ _ within j (omega arith) ∙ block_count _ _ _ _ _ c.from.ensures j)
+    (λ j h. part_at _ _ _ within j (omega arith) ∙ block_count _ _ _ _ _ c.counts_start.ensures j)
     (part_long _ _ _ within (omega arith) ∙ omega arith)
     c.combine_words.ensures c.in-Some.ensures.steps.1
 
