@@ -16,8 +16,8 @@ use Rattle.sheet.proofs.SliceLaws.{part_long, part_at, replaced_long, replaced_i
 use Rattle.sheet.proofs.WordsLaws.{base_count}
 use Rattle.sheet_theory.proofs.LayoutLaws.{place_apart, redone_ext, length_redone, row_redone, count_redone, rest_redone}
 use Rattle.edit_theory.specs.Outcome.{edited_count}
-use Rattle.edit_counts.specs.Internal.{to_factor, from_factor, with_factors, sum_at, with_multiple, counts_from_edited, count_by, counts_by, counts_edited}
-use Rattle.edit_counts.proofs.FactorLaws.{edited_by_lem, edited_mod, edited_to}
+use Rattle.edit_counts.specs.Internal.{to_factor, from_factor, with_factors, Factors, sum_at, with_multiple, counts_from_edited, count_by, counts_by, counts_edited}
+use Rattle.edit_counts.proofs.FactorLaws.{edited_by_lem, edited_mod, sum_none}
 
 -- ---- words with a multiple of others added
 
@@ -49,14 +49,6 @@ module _ (l : List ℕ) (x : ℕ) (T : List ℕ) where
 
 -- ---- the counts from one vertex
 
--- `edit_counts_from`: both multiples, where f is the sum over the predecessors a and x the factor of T
-pub counts_from_edited_lem : (inserts : Bool) (n : ℕ) (l : List ℕ) (v a f x : ℕ) (T U h w : List ℕ) → f ≡ sum_at n l a
-    → x ≡ to_factor inserts (get_or l v 0) f → h ≡ with_multiple n l x T → w ≡ with_multiple n h f U → w ≡ counts_from_edited inserts n l v a T U
-counts_from_edited_lem inserts n l v a f x T U h w ef ex eh e =
-    e
-    ∙ ap (λ (k : List ℕ). with_multiple n k f U) (eh ∙ ap (λ (y : ℕ). with_multiple n l y T) ex)
-    ∙ ap (λ (g : ℕ). with_multiple n (with_multiple n l (to_factor inserts (get_or l v 0) g) T) g U) ef
-
 module _ (inserts : Bool) (n : ℕ) (s : List ℕ) (v a i : ℕ) (T l : List ℕ) where
   -- the counts from i as the edit leaves them
   pub record Edited (w : List ℕ) : Type 0 where
@@ -68,9 +60,15 @@ module _ (inserts : Bool) (n : ℕ) (s : List ℕ) (v a i : ℕ) (T l : List ℕ
     unfolding from_sum
     sums = ap (λ y. y % 2 ^ 64) (sum_cong n _ _ (λ k q. ap (λ y. bit a k * y) (was.counts k q)))
 
-    -- a turn of `edit_both`
-    pub edited_both : (U z w : List ℕ) → n ≤ length z → U ≡ with_factors inserts n s v T z → w ≡ counts_from_edited inserts n l v a T U → Edited w
-    edited_both U z w h eu ew =
+    -- where there are no predecessors, what u has is multiplied by 0
+    product : (U : List ℕ) → Factors inserts n s v a T U
+        → (j : ℕ) → j < n → sum_at n l a * get_or U j 0 ≡ sum_at n l a * from_factor inserts (get_or T j 0) (count_at n s v j)
+    product U (inl e) j q = rw (e, sum_none n l, zero-mul (get_or U j 0), zero-mul (from_factor inserts (get_or T j 0) (count_at n s v j))) refl
+    product U (inr h) j q = ap (λ y. sum_at n l a * y) (h j q)
+
+    -- a turn of `edit_all`
+    pub edited_from : (U w : List ℕ) → Factors inserts n s v a T U → w ≡ counts_from_edited inserts n l v a T U → Edited w
+    edited_from U w h ew =
         let f : ℕ = sum_at n l a in
         let m : List ℕ = with_multiple n l (to_factor inserts (get_or l v 0) f) T in
         let fits : n ≤ length l = omega (arith, was.long) in
@@ -79,23 +77,8 @@ module _ (inserts : Bool) (n : ℕ) (s : List ℕ) (v a i : ℕ) (T l : List ℕ
           long = multiple_long m f U n (omega (arith, same)) w ew ∙ same ∙ was.long;
           counts = λ j q.
               multiple_at m f U n (omega (arith, same)) w ew j q
-              ∙ rw (multiple_at l _ T n fits m refl j q, mod-add-mod, was.counts j q, was.counts v hv, sums, factor j q)
+              ∙ rw (product U h j q, multiple_at l _ T n fits m refl j q, mod-add-mod, was.counts j q, was.counts v hv, sums)
               (edited_by_lem (count_at n s i j) (count_at n s i v) (count_at n s v j) (from_sum n (count_at n s) (bit a) i) (get_or T j 0) inserts);
-        }
-      where
-        factor : (j : ℕ) → j < n → get_or U j 0 ≡ from_factor inserts (get_or T j 0) (count_at n s v j)
-        factor j hj = ap (λ (r : List ℕ). get_or r j 0) eu ∙ puts_in z (λ k. k) _ n j hj (omega arith) (λ i x y e. omega arith)
-
-    -- a turn of `edit_to`
-    pub edited_alone : (x k : ℕ) (w : List ℕ) → a ≡ 0 → x ≡ to_factor inserts (get_or l v 0) 0 → k ≡ n → w ≡ with_multiple k l x T → Edited w
-    edited_alone x k w ea ex ek ew =
-        let fits : n ≤ length l = omega (arith, was.long) in
-        let ew' : w ≡ with_multiple n l x T = ew ∙ ap (λ y. with_multiple y l x T) ek in
-        record {
-          long = multiple_long l x T n fits w ew' ∙ was.long;
-          counts = λ j q.
-              multiple_at l x T n fits w ew' j q
-              ∙ rw (ex, was.counts j q, was.counts v hv, ea) (edited_to inserts n (count_at n s) i _ _ (count_at n s v j) (get_or T j 0));
         }
 
 -- ---- the vertices one after the other
@@ -127,7 +110,7 @@ module _ (inserts : Bool) (n : ℕ) (s : List ℕ) (v a : ℕ) (T : List ℕ) wh
           ∙ was.kept (counts_from n i + j) (inr (omega arith));
     }
 
-    -- a turn of either loop, which leaves w for them
+    -- a turn of the loop, which leaves w for them
     pub editing_more : (l w : List ℕ) → Edited inserts n s v a i T l w
         → Editing inserts n s v a T (i + 1) (take base t ++ (w ++ drop (base + n - base) (drop base t)))
     editing_more l w row =
@@ -149,12 +132,21 @@ module _ (inserts : Bool) (n : ℕ) (s : List ℕ) (v a : ℕ) (T : List ℕ) wh
               ];
         }
 
--- `edit_counts`: the counts by the sums t for the successors b, with k for the predecessors a
-pub counts_edited_lem : (inserts : Bool) (n : ℕ) (s : List ℕ) (v a b k : ℕ) (t w : List ℕ) → Shape n s → CountsSummed n s b t → a ≡ k
-    → w ≡ counts_by inserts n s v k t → w ≡ counts_edited inserts n s v a b
+-- `edit_counts`: without predecessors, or what `from_factors` leaves
+pub factors_none : (inserts : Bool) (n : ℕ) (s : List ℕ) (v a : ℕ) (T U : List ℕ) → a ≡ 0 → Factors inserts n s v a T U
+factors_none inserts n s v a T U e = inl e
+
+pub factors_all : (inserts : Bool) (n : ℕ) (s : List ℕ) (v a : ℕ) (T z U : List ℕ) → n ≤ length z → U ≡ with_factors inserts n s v T z
+    → Factors inserts n s v a T U
+factors_all inserts n s v a T z U h e =
+    inr (λ j q. ap (λ (r : List ℕ). get_or r j 0) e ∙ puts_in z (λ k. k) _ n j q (omega arith) (λ i x y o. omega arith))
+
+-- `edit_counts`: the counts by the sums t for the successors b
+pub counts_edited_lem : (inserts : Bool) (n : ℕ) (s : List ℕ) (v a b : ℕ) (t w : List ℕ) → Shape n s → CountsSummed n s b t
+    → w ≡ counts_by inserts n s v a t → w ≡ counts_edited inserts n s v a b
 unfolding edited_count to_sum
-counts_edited_lem inserts n s v a b k t w shape was ea e =
+counts_edited_lem inserts n s v a b t w shape was e =
     e
     ∙ redone_ext n (row_at s) (edited_count inserts n s v a b) s _ (length_redone n _ _ s) (row_redone n _ _ s shape.long)
-    (λ i j hi hj. count_redone n _ _ s shape.long i j hi hj ∙ rw (← ea, was.sums j hj) (edited_mod _ _ _ _ _ inserts))
+    (λ i j hi hj. count_redone n _ _ s shape.long i j hi hj ∙ rw (was.sums j hj) (edited_mod _ _ _ _ _ inserts))
     (rest_redone n _ _ s)

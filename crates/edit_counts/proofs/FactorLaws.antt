@@ -2,20 +2,20 @@
 -- Assumes nothing.
 use mathlib.Core.Path.{◌≡◌, refl, ap, ◌∙◌}
 use mathlib.Core.Bool.{Bool, true, false}
+use mathlib.Core.List.{List}
 use Prim.Native.Nat.{ℕ, ◌+◌, ◌*◌, ◌%◌, ◌^◌}
 use native.Mathlib.Nat.{mod-mod, mod-add-mod, mod-lt, add-zero, mul-add, add-mul, mul-zero, zero-mul}
 use native.Mathlib.Omega.{arith}
+use lib.ListN.{get_or}
 use lib.Pow.{pow_pos}
 use Rattle.sums.specs.Modulo.{Congruent}
 use Rattle.sums.proofs.SumLaws.{sum_all_zero}
 use Rattle.sums.proofs.ModuloLaws.{congruent_add, congruent_mul, congruent_product}
-use Rattle.word.specs.Bit.{bit}
 use Rattle.word.specs.Wrap.{minus}
 use Rattle.word.proofs.BitLaws.{bit_zero}
 use Rattle.word.proofs.WrapLaws.{minus_add, minus_congruent}
-use Rattle.graph.specs.Update.{from_sum}
 use Rattle.edit_theory.specs.Outcome.{edited_by}
-use Rattle.edit_counts.specs.Internal.{to_factor, from_factor}
+use Rattle.edit_counts.specs.Internal.{to_factor, from_factor, sum_at}
 
 -- ---- the factors
 
@@ -81,10 +81,5 @@ module _ (c x y F T : ℕ) where
   edited_mod false = minus_cong _ _ _ _ (omega (arith, reduced F)) (omega (arith, reduced x))
 
 -- without predecessors every F is 0
-from_none : (n : ℕ) (C : ℕ → ℕ → ℕ) (i : ℕ) → from_sum n C (bit 0) i ≡ 0
-unfolding from_sum
-from_none n C i = sum_all_zero n _ (λ k h. rw (bit_zero k) (zero-mul _))
-
-pub edited_to : (inserts : Bool) (n : ℕ) (C : ℕ → ℕ → ℕ) (i c x y T : ℕ)
-    → (c + to_factor inserts x 0 * T) % 2 ^ 64 ≡ edited_by inserts c x y (from_sum n C (bit 0) i) T
-edited_to inserts n C i c x y T = rw (from_none n C i, ← (edited_by_lem c x y 0 T inserts), zero-mul (from_factor inserts T y), add-zero) refl
+pub sum_none : (n : ℕ) (l : List ℕ) → sum_at n l 0 ≡ 0
+sum_none n l = ap (λ y. y % 2 ^ 64) (sum_all_zero n _ (λ k h. rw (bit_zero k) (zero-mul (get_or l k 0))))

@@ -1,6 +1,6 @@
 -- What the internal functions that bring the counts up to date ask and promise. No public call's contract cites these. Definitions only.
 -- Assumes nothing.
-use Rattle.std.specs.Prelude.{◌≡◌, Bool, true, false, List, ℕ, ◌+◌, ◌*◌, ◌%◌, ◌^◌, get_or}
+use Rattle.std.specs.Prelude.{◌≡◌, ◌⊎◌, ◌<◌, Bool, true, false, List, ℕ, ◌+◌, ◌*◌, ◌%◌, ◌^◌, get_or}
 use Rattle.sums.specs.Sum.{sum}
 use Rattle.word.specs.Bit.{bit}
 use Rattle.word.specs.Wrap.{minus}
@@ -31,6 +31,10 @@ from_factor false t y = minus 0 y
 -- u with, at each j below n, what the sum F is multiplied by in the counts to j, where t has the sums T
 abbrev pub with_factors : Bool → ℕ → List ℕ → ℕ → List ℕ → List ℕ → List ℕ
 with_factors inserts n s v t u = puts u (λ j. j) (λ j. from_factor inserts (get_or t j 0) (count_at n s v j)) n
+
+-- u has, at each j below n, what the sum F is multiplied by in the counts to j, where t has the sums T: or anything, without predecessors
+abbrev pub Factors : Bool → ℕ → List ℕ → ℕ → ℕ → List ℕ → List ℕ → Type 0
+Factors inserts n s v a t u = (a ≡ 0) ⊎ ((j : ℕ) → j < n → get_or u j 0 ≡ from_factor inserts (get_or t j 0) (count_at n s v j))
 
 -- the sum of those of the first n words of l whose places are in the mask, modulo 2 ^ 64
 abbrev pub sum_at : ℕ → List ℕ → ℕ → ℕ

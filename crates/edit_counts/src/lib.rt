@@ -6,7 +6,7 @@
 
 ghost use Rattle.std.specs.Prelude.{◌≡◌, ◌≤◌, ◌<◌, ◌^◌, length};
 ghost use Rattle.sheet_theory.specs.Layout.{most_vertices, Shape};
-ghost use Rattle.edit_counts.specs.Internal.{to_factor, from_factor, with_factors, sum_at, with_multiple, counts_from_edited, counts_by, counts_edited};
+ghost use Rattle.edit_counts.specs.Internal.{to_factor, from_factor, with_factors, Factors, sum_at, with_multiple, counts_from_edited, counts_by, counts_edited};
 
 pub mod edges;
 
@@ -61,19 +61,6 @@ fn add_multiple(words: &mut [u64], x: u64, t: &[u64; Sheet::VERTICES])
 }
 
 impl EdgesAt {
-    // Every count by T alone, where there are no predecessors and each F is 0.
-    fn edit_to(self, sheet: &mut [u64], t: &[u64; Sheet::VERTICES])
-        requires { Shape self.n sheet.old }
-        ensures { sheet.new ≡ counts_by self.inserts self.n sheet.old self.v 0 t.now }
-    {
-        for i in 0..self.n {
-            let from = sheet::layout::counts_start(self.n, i);
-            let counts = &mut sheet[from..from + self.n];
-            let x = counts[self.v];
-            add_multiple(counts, to_factor(self.inserts, x, 0), t);
-        }
-    }
-
     // The counts from one vertex. u has what F is multiplied by.
     fn edit_counts_from(
         self,
@@ -103,24 +90,19 @@ impl EdgesAt {
         }
     }
 
-    // Every count by both sums.
-    fn edit_both(self, sheet: &mut [u64], t: &[u64; Sheet::VERTICES])
-        requires { Shape self.n sheet.old }
+    // Every count by T, which t has, and by F, times the words of u.
+    fn edit_all(self, sheet: &mut [u64], t: &[u64; Sheet::VERTICES], u: &[u64; Sheet::VERTICES])
+        requires shape { Shape self.n sheet.old }
+        requires factors { Factors self.inserts self.n sheet.old self.v self.predecessors t.now u.now }
         ensures { sheet.new ≡ counts_by self.inserts self.n sheet.old self.v self.predecessors t.now }
     {
-        let lent = View {
-            n: self.n,
-            words: sheet,
-        };
-        let mut u = [0u64; Sheet::VERTICES];
-        self.from_factors(lent, t, &mut u);
         for i in 0..self.n {
             let from = sheet::layout::counts_start(self.n, i);
-            self.edit_counts_from(&mut sheet[from..from + self.n], t, &u);
+            self.edit_counts_from(&mut sheet[from..from + self.n], t, u);
         }
     }
 
-    // Internal: every count as the edit leaves it. Without predecessors neither F nor u is worked out.
+    // Internal: every count as the edit leaves it. Without predecessors each F is 0, and what it is multiplied by is not worked out.
     pub fn edit_counts(self, sheet: &mut [u64])
         requires { Shape self.n sheet.old }
         ensures { sheet.new ≡ counts_edited self.inserts self.n sheet.old self.v self.predecessors self.successors }
@@ -130,12 +112,12 @@ impl EdgesAt {
             words: sheet,
         };
         // Added up where they stand: handed out by a function of their own, they are copied, and an edge takes a tenth longer.
-        let mut sums = [0u64; Sheet::VERTICES];
-        lent.combine_counts::<Plus>(0, self.n, self.successors, &mut sums);
-        if self.predecessors == 0 {
-            self.edit_to(sheet, &sums);
-            return;
+        let mut t = [0u64; Sheet::VERTICES];
+        lent.combine_counts::<Plus>(0, self.n, self.successors, &mut t);
+        let mut u = [0u64; Sheet::VERTICES];
+        if self.predecessors != 0 {
+            self.from_factors(lent, &t, &mut u);
         }
-        self.edit_both(sheet, &sums);
+        self.edit_all(sheet, &t, &u);
     }
 }

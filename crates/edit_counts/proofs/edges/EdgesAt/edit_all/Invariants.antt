@@ -1,7 +1,7 @@
--- `edit_counts::EdgesAt::edit_both` meets its contract: after i turns the counts from the first i vertices are as the edit leaves them, and
+-- `edit_counts::EdgesAt::edit_all` meets its contract: after i turns the counts from the first i vertices are as the edit leaves them, and
 -- the counts from the others are as they were. Assumes nothing.
 use Rattle.edit_counts.proofs.EditedCounts.{Editing}
-use Rattle.edit_counts.proofs.edges.EdgesAt.edit_both.Given as goal
+use Rattle.edit_counts.proofs.edges.EdgesAt.edit_all.Given as goal
 
 abbrev pub invariant-loop-i : goal.invariant-loop-i
 invariant-loop-i l = Editing l.self.inserts l.self.n l.initial.sheet l.self.v l.self.predecessors l.t l.i l.sheet
