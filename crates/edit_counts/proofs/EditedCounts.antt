@@ -10,13 +10,14 @@ use Rattle.sums.proofs.SumLaws.{sum_cong}
 use Rattle.word.specs.Bit.{bit}
 use Rattle.graph.specs.Update.{from_sum, to_sum}
 use Rattle.sheet_theory.specs.Layout.{Shape, counts_from, row_at, count_at}
+use Rattle.sheet.specs.Fill.{puts}
 use Rattle.sheet.specs.Internal.{CountsFrom, CountsOf, CountsSummed}
 use Rattle.sheet.proofs.FillLaws.{length_puts, puts_in, puts_out, puts_change}
 use Rattle.sheet.proofs.SliceLaws.{part_long, part_at, replaced_long, replaced_in, replaced_out}
 use Rattle.sheet.proofs.WordsLaws.{base_count}
 use Rattle.sheet_theory.proofs.LayoutLaws.{place_apart, redone_ext, length_redone, row_redone, count_redone, rest_redone}
 use Rattle.edit_theory.specs.Outcome.{edited_count}
-use Rattle.edit_counts.specs.Internal.{to_factor, from_factor, with_factors, Factors, sum_at, with_multiple, counts_from_edited, count_by, counts_by, counts_edited}
+use Rattle.edit_counts.specs.Internal.{to_factor, from_factor, Factors, sum_at, with_multiple, counts_from_edited, count_by, counts_by, counts_edited}
 use Rattle.edit_counts.proofs.FactorLaws.{edited_by_lem, edited_mod, sum_none}
 
 -- ---- words with a multiple of others added
@@ -48,6 +49,12 @@ module _ (l : List ℕ) (x : ℕ) (T : List ℕ) where
       ])
 
 -- ---- the counts from one vertex
+
+-- `from_factors`: what the loop leaves, after j turns
+pub factors_all : (inserts : Bool) (n : ℕ) (s : List ℕ) (v a : ℕ) (T z U : List ℕ) (j : ℕ) → n ≤ length z
+    → U ≡ puts z (λ k. k) (λ k. from_factor inserts (get_or T k 0) (count_at n s v k)) j → n ≤ j → Factors inserts n s v a T U
+factors_all inserts n s v a T z U j h e f =
+    inr (λ k q. ap (λ (r : List ℕ). get_or r k 0) e ∙ puts_in z (λ i. i) _ j k (omega arith) (omega arith) (λ i x y o. omega arith))
 
 module _ (inserts : Bool) (n : ℕ) (s : List ℕ) (v a i : ℕ) (T l : List ℕ) where
   -- the counts from i as the edit leaves them
@@ -131,15 +138,6 @@ module _ (inserts : Bool) (n : ℕ) (s : List ℕ) (v a : ℕ) (T : List ℕ) wh
                     replaced_out t w base n editing_fits row.long x (inr after) ∙ was.kept x (inr (omega (arith, at.is)))
               ];
         }
-
--- `edit_counts`: without predecessors, or what `from_factors` leaves
-pub factors_none : (inserts : Bool) (n : ℕ) (s : List ℕ) (v a : ℕ) (T U : List ℕ) → a ≡ 0 → Factors inserts n s v a T U
-factors_none inserts n s v a T U e = inl e
-
-pub factors_all : (inserts : Bool) (n : ℕ) (s : List ℕ) (v a : ℕ) (T z U : List ℕ) → n ≤ length z → U ≡ with_factors inserts n s v T z
-    → Factors inserts n s v a T U
-factors_all inserts n s v a T z U h e =
-    inr (λ j q. ap (λ (r : List ℕ). get_or r j 0) e ∙ puts_in z (λ k. k) _ n j q (omega arith) (λ i x y o. omega arith))
 
 -- `edit_counts`: the counts by the sums t for the successors b
 pub counts_edited_lem : (inserts : Bool) (n : ℕ) (s : List ℕ) (v a b : ℕ) (t w : List ℕ) → Shape n s → CountsSummed n s b t

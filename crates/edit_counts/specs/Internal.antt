@@ -28,10 +28,6 @@ unfoldable pub from_factor : Bool → ℕ → ℕ → ℕ
 from_factor true t y = (t + y) % 2 ^ 64
 from_factor false t y = minus 0 y
 
--- u with, at each j below n, what the sum F is multiplied by in the counts to j, where t has the sums T
-abbrev pub with_factors : Bool → ℕ → List ℕ → ℕ → List ℕ → List ℕ → List ℕ
-with_factors inserts n s v t u = puts u (λ j. j) (λ j. from_factor inserts (get_or t j 0) (count_at n s v j)) n
-
 -- u has, at each j below n, what the sum F is multiplied by in the counts to j, where t has the sums T: or anything, without predecessors
 abbrev pub Factors : Bool → ℕ → List ℕ → ℕ → ℕ → List ℕ → List ℕ → Type 0
 Factors inserts n s v a t u = (a ≡ 0) ⊎ ((j : ℕ) → j < n → get_or u j 0 ≡ from_factor inserts (get_or t j 0) (count_at n s v j))

@@ -6,7 +6,7 @@
 
 ghost use Rattle.std.specs.Prelude.{◌≡◌, ◌≤◌, ◌<◌, ◌^◌, length};
 ghost use Rattle.sheet_theory.specs.Layout.{most_vertices, Shape};
-ghost use Rattle.edit_counts.specs.Internal.{to_factor, from_factor, with_factors, Factors, sum_at, with_multiple, counts_from_edited, counts_by, counts_edited};
+ghost use Rattle.edit_counts.specs.Internal.{to_factor, from_factor, Factors, sum_at, with_multiple, counts_from_edited, counts_by, counts_edited};
 
 pub mod edges;
 
@@ -78,12 +78,15 @@ impl EdgesAt {
         add_multiple(counts, f, u);
     }
 
-    // The first n words of u: at each j, what F is multiplied by in the counts to j. u is lent, since an array that is handed out is
-    // copied.
+    // The first n words of u: at each j, what F is multiplied by in the counts to j. Nothing is written without predecessors, where each F
+    // is 0. u is lent, since an array that is handed out is copied.
     fn from_factors(self, sheet: View, t: &[u64; Sheet::VERTICES], u: &mut [u64; Sheet::VERTICES])
         requires { sheet.n ≡ self.n }
-        ensures { u.new ≡ with_factors self.inserts sheet.entry.n sheet.entry.words.now self.v t.now u.old }
+        ensures { Factors self.inserts sheet.entry.n sheet.entry.words.now self.v self.predecessors t.now u.new }
     {
+        if self.predecessors == 0 {
+            return;
+        }
         // By the place, for the reason at `add_multiple`.
         for (j, y) in sheet.counts_from(self.v).iter().enumerate() {
             u[j] = from_factor(self.inserts, t[j], *y);
@@ -102,7 +105,7 @@ impl EdgesAt {
         }
     }
 
-    // Internal: every count as the edit leaves it. Without predecessors each F is 0, and what it is multiplied by is not worked out.
+    // Internal: every count as the edit leaves it.
     pub fn edit_counts(self, sheet: &mut [u64])
         requires { Shape self.n sheet.old }
         ensures { sheet.new ≡ counts_edited self.inserts self.n sheet.old self.v self.predecessors self.successors }
@@ -115,9 +118,7 @@ impl EdgesAt {
         let mut t = [0u64; Sheet::VERTICES];
         lent.combine_counts::<Plus>(0, self.n, self.successors, &mut t);
         let mut u = [0u64; Sheet::VERTICES];
-        if self.predecessors != 0 {
-            self.from_factors(lent, &t, &mut u);
-        }
+        self.from_factors(lent, &t, &mut u);
         self.edit_all(sheet, &t, &u);
     }
 }

@@ -2,6 +2,7 @@
 use Rattle.std.proofs.Common.{refl, ap, ◌∙◌, arith}
 use Rattle.sheet.proofs.FillLaws.{puts_none, puts_more}
 use Rattle.edit_counts.specs.Internal.{from_factor}
+use Rattle.edit_counts.proofs.EditedCounts.{factors_all}
 use Rattle.edit_counts.proofs.edges.EdgesAt.from_factors.Goals as goal
 
 pub loop-j-init : goal.loop-j-init
@@ -11,3 +12,6 @@ pub loop-j-preserved : goal.loop-j-preserved
 loop-j-preserved c =
     puts_more _ _ _ _ _ _ _ c.loop-j.invariant refl
     (c.from_factor.ensures ∙ ap (from_factor c.args.self.inserts _) (c.counts_from-y-items.ensures.counts c.loop-j.j (omega (arith, c.counts_from-y-items.ensures.long))))
+
+pub returns : goal.returns
+returns c = factors_all _ _ _ _ _ _ _ _ _ (omega arith) c.loop-j.invariant (omega (arith, c.counts_from-y-items.ensures.long))
