@@ -93,7 +93,7 @@ impl EdgesAt {
         }
     }
 
-    // Every count by T, which t has, and by F, times the words of u.
+    // Every count. t has the sums T, and u what F is multiplied by.
     fn edit_all(self, sheet: &mut [u64], t: &[u64; Sheet::VERTICES], u: &[u64; Sheet::VERTICES])
         requires shape { Shape self.n sheet.old }
         requires factors { Factors self.inserts self.n sheet.old self.v self.predecessors t.now u.now }
@@ -114,7 +114,7 @@ impl EdgesAt {
             n: self.n,
             words: sheet,
         };
-        // Added up where they stand: handed out by a function of their own, they are copied, and an edge takes a tenth longer.
+        // The sums T are added up where they stand: handed out by a function of their own, they are copied, and an edge takes a tenth longer.
         let mut t = [0u64; Sheet::VERTICES];
         lent.combine_counts::<Plus>(0, self.n, self.successors, &mut t);
         let mut u = [0u64; Sheet::VERTICES];
