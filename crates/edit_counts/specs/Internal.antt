@@ -28,7 +28,7 @@ unfoldable pub from_factor : Bool → ℕ → ℕ → ℕ
 from_factor true t y = (t + y) % 2 ^ 64
 from_factor false t y = minus 0 y
 
--- u has, at each j below n, what the sum F is multiplied by in the counts to j, where t has the sums T: or anything, without predecessors
+-- there are no predecessors, or u has, at each j below n, what the sum F is multiplied by in the counts to j, where t has the sums T
 abbrev pub Factors : Bool → ℕ → List ℕ → ℕ → ℕ → List ℕ → List ℕ → Type 0
 Factors inserts n s v a t u = (a ≡ 0) ⊎ ((j : ℕ) → j < n → get_or u j 0 ≡ from_factor inserts (get_or t j 0) (count_at n s v j))
 
