@@ -50,6 +50,14 @@ module _ (l : List ℕ) (x : ℕ) (T : List ℕ) where
 
 -- ---- the counts from one vertex
 
+-- both multiples, where f is the sum over the predecessors a and x the factor of T
+pub counts_from_edited_lem : (inserts : Bool) (n : ℕ) (l : List ℕ) (v a f x : ℕ) (T U h w : List ℕ) → f ≡ sum_at n l a
+    → x ≡ to_factor inserts (get_or l v 0) f → h ≡ with_multiple n l x T → w ≡ with_multiple n h f U → w ≡ counts_from_edited inserts n l v a T U
+counts_from_edited_lem inserts n l v a f x T U h w ef ex eh e =
+    e
+    ∙ ap (λ (k : List ℕ). with_multiple n k f U) (eh ∙ ap (λ (y : ℕ). with_multiple n l y T) ex)
+    ∙ ap (λ (g : ℕ). with_multiple n (with_multiple n l (to_factor inserts (get_or l v 0) g) T) g U) ef
+
 -- `from_factors`: what the loop leaves, after j turns
 pub factors_all : (inserts : Bool) (n : ℕ) (s : List ℕ) (v a : ℕ) (T z U : List ℕ) (j : ℕ) → n ≤ length z
     → U ≡ puts z (λ k. k) (λ k. from_factor inserts (get_or T k 0) (count_at n s v k)) j → n ≤ j → Factors inserts n s v a T U
