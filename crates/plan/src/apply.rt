@@ -37,12 +37,10 @@ fn apply(n: usize, sheet: &mut [u64], plan: &[u8]) -> Result<(), RefusedAt>
 {
     // The place is cast: from `usize` to `u64` there is no `From`.
     for (k, record) in PlanReader::at(plan, 0).enumerate() {
-        if let Err(refusal) = apply_record(n, sheet, record) {
-            return Err(RefusedAt {
-                refusal,
-                place: k as u64 + 1,
-            });
-        }
+        apply_record(n, sheet, record).map_err(|refusal| RefusedAt {
+            refusal,
+            place: k as u64 + 1,
+        })?;
     }
     Ok(())
 }
