@@ -50,7 +50,7 @@ fn number(tens: u8, ones: u8) -> Result<usize, Malformed>
     if !tens.is_ascii_digit() || !ones.is_ascii_digit() {
         return Err(Malformed);
     }
-    Ok(10 * usize::from(tens - b'0') + usize::from(ones - b'0'))
+    Ok(text::BASE * usize::from(tens - b'0') + usize::from(ones - b'0'))
 }
 
 // What the first 8 bytes say, or malformed if they are not of the form of a record, or fewer.
