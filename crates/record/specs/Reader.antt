@@ -14,7 +14,7 @@ record_at plan k = decoded (take record_bytes (drop (record_bytes * k) plan))
 unfoldable pub records_from : List ℕ → ℕ → List Reading
 records_from plan k = map (record_at plan) (range_with_len k (div_ceil (length plan) record_bytes - k))
 
--- r is what the record k of a plan says, the first of those from it on; none if there are none
+-- r is what the record k of a plan says, the first of those from it on; or None, if no record begins there
 abbrev pub GivesAt : List ℕ → ℕ → Option Reading → Type 0
 GivesAt plan k r = MatchOption r (records_from plan k ≡ []) (λ x. records_from plan k ≡ x ∷ records_from plan (k + 1))
 
@@ -22,7 +22,7 @@ GivesAt plan k r = MatchOption r (records_from plan k ≡ []) (λ x. records_fro
 abbrev pub records_left : PlanReader → List Reading
 records_left reader = records_from reader.plan.now reader.«record»
 
--- a reader s gives r and is t then: r is the first of what s has left, or none if nothing is left, and t has got to the next record of the
+-- a reader s gives r and is t then: r is the first of what s has left, or None if nothing is left, and t has got to the next record of the
 -- same plan, or has stayed
 abbrev pub Reads : PlanReader → Option Reading → PlanReader → Type 0
 Reads s r t =

@@ -42,7 +42,7 @@ pub fn encode(letter: u8, from: usize, to: usize) -> [u8; Record::BYTES]
     ]
 }
 
-// What two digits write, or malformed if a byte is no digit.
+// What two digits write; `Malformed` if a byte is no digit.
 #[tactic(auto, unfolding(crate::specs::Record::are_digits))]
 fn number(tens: u8, ones: u8) -> Result<usize, Malformed>
     ensures { result ≡ cond (are_digits tens ones) (Ok (from_digits tens ones)) (Err malformed) }
@@ -53,7 +53,7 @@ fn number(tens: u8, ones: u8) -> Result<usize, Malformed>
     Ok(text::BASE * usize::from(tens - b'0') + usize::from(ones - b'0'))
 }
 
-// What the first 8 bytes say, or malformed if they are not of the form of a record, or fewer.
+// What the first 8 bytes say; `Malformed` if they are not of the form of a record, or fewer.
 pub fn decode(bytes: &[u8]) -> Result<Record, Malformed>
     ensures { result ≡ decoded (take record_bytes bytes.now) }
 {

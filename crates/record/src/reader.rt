@@ -22,7 +22,7 @@ impl<'a> PlanReader<'a> {
     }
 }
 
-// One record after the other, until no byte is left.
+// What one record after the other says, and `None` once no byte is left.
 impl<'a> Iterator for PlanReader<'a> {
     type Item = Result<Record, Malformed>;
 
@@ -37,8 +37,8 @@ impl<'a> Iterator for PlanReader<'a> {
     }
 }
 
-// What the record k of a plan says, from 0 up, or malformed, as a record is that the end of the plan cuts off; and `None` where no byte is
-// left for it. The work of `next`.
+// The work of `next`: `None` where the plan has no byte left for the record k, from 0 up; else what that record says, which is `Malformed`
+// too where the end of the plan cuts it off.
 fn reading_at(plan: &[u8], k: usize) -> Option<Result<Record, Malformed>>
     ensures gives { GivesAt plan.now k result }
     ensures within { IfSome result (λ _. record_bytes * k < 2 ^ 64) }
