@@ -16,14 +16,14 @@ pub enum Record {
     Delete(usize, usize),
 }
 
-// Why bytes say no record: they are not of the form of one.
-#[derive(Clone, Copy, Debug, PartialEq, Eq)]
-pub struct Malformed;
-
 impl Record {
     // The bytes of a record.
     pub const BYTES: usize = 8;
 }
+
+// Why bytes say no record: they are not of the form of one.
+#[derive(Clone, Copy, Debug, PartialEq, Eq)]
+pub struct Malformed;
 
 // Internal: the record of a letter and two numbers below 100.
 pub fn encode(letter: u8, from: usize, to: usize) -> [u8; Record::BYTES]
