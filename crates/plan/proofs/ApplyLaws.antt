@@ -1,5 +1,6 @@
 -- The laws of `src/apply.rt`: one record, and the records of a plan one after the other, as the plan reader gives them. Assumes nothing.
 use mathlib.Core.Path.{◌≡◌, refl, sym, ap, ap₂, ◌∙◌}
+use mathlib.Core.Bool.{Bool, true, false}
 use mathlib.Core.List.{List, [], ◌∷◌}
 use Prim.Native.Nat.{ℕ, suc, ◌+◌, ◌/◌, ◌%◌, ◌≤◌}
 use native.Mathlib.Omega.{arith}
@@ -20,7 +21,8 @@ use Rattle.sheet_theory.proofs.LayoutLaws.{size_le}
 use Rattle.answer.proofs.AnswerLaws.{decided_old}
 use Rattle.sheet.specs.Fill.{over}
 use Rattle.sheet.proofs.FillLaws.{length_puts, over_front}
-use Rattle.edit_theory.specs.Edit.{insert_edge, delete_edge}
+use Rattle.edit_theory.specs.Edit.{edge_edit, insert_edge, delete_edge}
+use Rattle.edit_theory.specs.Outcome.{edit_answer, edit_after}
 use Rattle.edit_theory.proofs.Refusals.{edit_refused}
 use Rattle.plan_theory.specs.Records.{records, number_on, left_by, Applied, applied}
 use Rattle.plan_theory.specs.Calls.{applied_plan}
@@ -33,6 +35,28 @@ use Rattle.plan_theory.proofs.AppliedLaws.{applied_place, applied_next, applied_
 pub number_answered : (o : Result ℕ Refusal) (r : Answer) → answer_of o ≡ r → number_of o ≡ r.number
 number_answered (Ok v) r e = ap (λ (x : Answer). x.number) e
 number_answered (Err f) r e = ap (λ (x : Answer). x.number) e
+
+-- the record that inserts an edge, or deletes it
+abbrev pub edge_record : Bool → ℕ → ℕ → Reading
+edge_record true u v = Ok (Insert u v)
+edge_record false u v = Ok (Delete u v)
+
+edge_number : (inserts : Bool) (n : ℕ) (s : Lent) (u v : ℕ) → (edit_answer (edge_edit inserts n u v) s).number ≡ number_on n s (edge_record inserts u v)
+unfolding number_on
+edge_number true n s u v = refl
+edge_number false n s u v = refl
+
+edge_left : (inserts : Bool) (n : ℕ) (s : Lent) (u v : ℕ) → edit_after (edge_edit inserts n u v) s ≡ left_by n s (edge_record inserts u v)
+edge_left true n s u v = refl
+edge_left false n s u v = refl
+
+-- r is what the edit answers, and t what it leaves
+module _ (inserts : Bool) (n : ℕ) (s : Lent) (x : Reading) (u v : ℕ) (ex : x ≡ edge_record inserts u v) where
+  pub record_edge : (r : Answer) → r ≡ edit_answer (edge_edit inserts n u v) s → r.number ≡ number_on n s x
+  record_edge r e = rw (e, ex) (edge_number inserts n s u v)
+
+  pub left_edge : (t : Lent) → t ≡ edit_after (edge_edit inserts n u v) s → t ≡ left_by n s x
+  left_edge t e = rw (e, ex) (edge_left inserts n s u v)
 
 -- a record that is refused leaves every word
 left_refused : (n : ℕ) (s : Lent) (x : Reading) → ¬ (number_on n s x ≡ 0) → left_by n s x ≡ s
