@@ -1,13 +1,14 @@
 -- The laws of `src/apply.rt`: one record, and the records of a plan one after the other, as the plan reader gives them. Assumes nothing.
 use mathlib.Core.Path.{◌≡◌, refl, sym, ap, ap₂, ◌∙◌}
+use mathlib.Core.Bool.{Bool, true, false}
 use mathlib.Core.List.{List, [], ◌∷◌}
 use Prim.Native.Nat.{ℕ, suc, ◌+◌, ◌/◌, ◌%◌, ◌≤◌}
 use native.Mathlib.Omega.{arith}
 use lib.ListN.{length, get_or}
 use lib.Seq.{ext_get_or}
-use Rattle.std.proofs.Common.{Option, Some, None, Result, Ok, Err}
-use Rattle.record.specs.declared.Record.{Record}
+use Rattle.std.proofs.Common.{Result, Ok, Err}
 use Rattle.record.specs.declared.Record.TheVariants.{Insert, Delete}
+use Rattle.record.specs.Record.{Reading}
 use Rattle.record.specs.Reader.{records_from}
 use Rattle.answer.specs.declared.Answer.{Answer}
 use Rattle.answer.specs.declared.Refusal.{Refusal}
@@ -20,7 +21,8 @@ use Rattle.sheet_theory.proofs.LayoutLaws.{size_le}
 use Rattle.answer.proofs.AnswerLaws.{decided_old}
 use Rattle.sheet.specs.Fill.{over}
 use Rattle.sheet.proofs.FillLaws.{length_puts, over_front}
-use Rattle.edit_theory.specs.Edit.{insert_edge, delete_edge}
+use Rattle.edit_theory.specs.Edit.{edge_edit, insert_edge, delete_edge}
+use Rattle.edit_theory.specs.Outcome.{edit_answer, edit_after}
 use Rattle.edit_theory.proofs.Refusals.{edit_refused}
 use Rattle.plan_theory.specs.Records.{records, number_on, left_by, Applied, applied}
 use Rattle.plan_theory.specs.Calls.{applied_plan}
@@ -34,31 +36,53 @@ pub number_answered : (o : Result ℕ Refusal) (r : Answer) → answer_of o ≡ 
 number_answered (Ok v) r e = ap (λ (x : Answer). x.number) e
 number_answered (Err f) r e = ap (λ (x : Answer). x.number) e
 
--- a record that is refused leaves every word
-left_refused : (n : ℕ) (s : Lent) (x : Option Record) → ¬ (number_on n s x ≡ 0) → left_by n s x ≡ s
+-- the record that inserts an edge, or deletes it
+abbrev pub edge_record : Bool → ℕ → ℕ → Reading
+edge_record true u v = Ok (Insert u v)
+edge_record false u v = Ok (Delete u v)
+
+edge_number : (inserts : Bool) (n : ℕ) (s : Lent) (u v : ℕ) → (edit_answer (edge_edit inserts n u v) s).number ≡ number_on n s (edge_record inserts u v)
 unfolding number_on
-left_refused n s (Some (Insert u v)) d = (edit_refused (insert_edge n u v) s d).1
-left_refused n s (Some (Delete u v)) d = (edit_refused (delete_edge n u v) s d).1
-left_refused n s None d = refl
+edge_number true n s u v = refl
+edge_number false n s u v = refl
+
+edge_left : (inserts : Bool) (n : ℕ) (s : Lent) (u v : ℕ) → edit_after (edge_edit inserts n u v) s ≡ left_by n s (edge_record inserts u v)
+edge_left true n s u v = refl
+edge_left false n s u v = refl
+
+-- r is what the edit answers, and t what it leaves
+module _ (inserts : Bool) (n : ℕ) (s : Lent) (x : Reading) (u v : ℕ) (ex : x ≡ edge_record inserts u v) where
+  pub record_edge : (r : Answer) → r ≡ edit_answer (edge_edit inserts n u v) s → r.number ≡ number_on n s x
+  record_edge r e = rw (e, ex) (edge_number inserts n s u v)
+
+  pub left_edge : (t : Lent) → t ≡ edit_after (edge_edit inserts n u v) s → t ≡ left_by n s x
+  left_edge t e = rw (e, ex) (edge_left inserts n s u v)
+
+-- a record that is refused leaves every word
+left_refused : (n : ℕ) (s : Lent) (x : Reading) → ¬ (number_on n s x ≡ 0) → left_by n s x ≡ s
+unfolding number_on
+left_refused n s (Ok (Insert u v)) d = (edit_refused (insert_edge n u v) s d).1
+left_refused n s (Ok (Delete u v)) d = (edit_refused (delete_edge n u v) s d).1
+left_refused n s (Err e) d = refl
 
 -- ---- the records of a plan
 
 -- the first k records are applied and have left t, and rest is what the others say
-pub record Applying (n : ℕ) (s : Lent) (plan : List ℕ) (rest : List (Option Record)) (k : ℕ) (t : Lent) : Type 0 where
+pub record Applying (n : ℕ) (s : Lent) (plan : List ℕ) (rest : List Reading) (k : ℕ) (t : Lent) : Type 0 where
   pub within : k + length rest ≡ length plan / 8
   pub goes_on : applied_plan n s plan ≡ applied n rest t (suc k)
 
 module _ (n : ℕ) (s : Lent) (plan : List ℕ) where
-  pub applying_start : length plan % 8 ≡ 0 → (rest : List (Option Record)) → rest ≡ records_from plan 0 → (k : ℕ) → k ≡ 0 → Applying n s plan rest k s
+  pub applying_start : length plan % 8 ≡ 0 → (rest : List Reading) → rest ≡ records_from plan 0 → (k : ℕ) → k ≡ 0 → Applying n s plan rest k s
   applying_start w rest er k ek =
       rw (ek, er, records_given plan w) record { within = omega (arith, records_length plan); goes_on = refl }
 
-  module _ (rest : List (Option Record)) (k : ℕ) (t : Lent) (was : Applying n s plan rest k t) where
+  module _ (rest : List Reading) (k : ℕ) (t : Lent) (was : Applying n s plan rest k t) where
     -- nothing is left
     pub applying_end : rest ≡ [] → {A : Type 0} (o : Result A RefusedAt) → number_at o ≡ 0 → place_at o ≡ 0 → Reached (applied_plan n s plan) o t
     unfolding applied
     applying_end none o eo ep =
-        let f : applied_plan n s plan ≡ record { number = 0; place = 0; left = t } = was.goes_on ∙ ap (λ (l : List (Option Record)). applied n l t (suc k)) none in
+        let f : applied_plan n s plan ≡ record { number = 0; place = 0; left = t } = was.goes_on ∙ ap (λ (l : List Reading). applied n l t (suc k)) none in
         record {
           number = eo ∙ ap (λ (p : Applied). p.number) (sym f);
           place = ep ∙ ap (λ (p : Applied). p.place) (sym f);
@@ -66,9 +90,9 @@ module _ (n : ℕ) (s : Lent) (plan : List ℕ) where
         }
 
     -- x is the next record, l is what those after it say, and u what it left
-    module _ (x : Option Record) (l : List (Option Record)) (more : rest ≡ x ∷ l) (u : Lent) (eu : u ≡ left_by n t x) where
+    module _ (x : Reading) (l : List Reading) (more : rest ≡ x ∷ l) (u : Lent) (eu : u ≡ left_by n t x) where
       opens : applied_plan n s plan ≡ applied n (x ∷ l) t (suc k)
-      opens = was.goes_on ∙ ap (λ (m : List (Option Record)). applied n m t (suc k)) more
+      opens = was.goes_on ∙ ap (λ (m : List Reading). applied n m t (suc k)) more
 
       pub applying_refused : {A : Type 0} (e : Refusal) → number_of_refusal e ≡ number_on n t x → (i : ℕ) → i ≡ k
           → Reached {A = A} (applied_plan n s plan) (Err (refused_at e (i + 1))) u

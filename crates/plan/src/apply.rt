@@ -9,20 +9,24 @@ ghost use Rattle.plan_theory.specs.Calls.{applied_plan};
 ghost use Rattle.plan.specs.Internal.{Reached, AppliedAll};
 
 use answer::RefusedAt;
-use record::Record;
 use record::reader::PlanReader;
+use record::{Malformed, Record};
 use sheet::{Refusal, Sheet, View};
 
 // One record, applied, or why it is refused.
 #[tactic(auto, using(crate::proofs::ApplyLaws::number_answered), unfolding(plan_theory::specs::Records::number_on))]
-fn apply_record(n: usize, sheet: &mut [u64], record: Option<Record>) -> Result<u64, Refusal>
+fn apply_record(
+    n: usize,
+    sheet: &mut [u64],
+    record: Result<Record, Malformed>,
+) -> Result<u64, Refusal>
     ensures number { number_of result ≡ number_on n (lent sheet.old) «record» }
     ensures words { lent sheet.new ≡ left_by n (lent sheet.old) «record» }
 {
     match record {
-        Some(Record::Insert(from, to)) => edit::edit_edge(true, n, sheet, from, to),
-        Some(Record::Delete(from, to)) => edit::edit_edge(false, n, sheet, from, to),
-        None => Err(Refusal::Record),
+        Ok(Record::Insert(from, to)) => edit::edit_edge(true, n, sheet, from, to),
+        Ok(Record::Delete(from, to)) => edit::edit_edge(false, n, sheet, from, to),
+        Err(Malformed) => Err(Refusal::Record),
     }
 }
 
@@ -33,12 +37,10 @@ fn apply(n: usize, sheet: &mut [u64], plan: &[u8]) -> Result<(), RefusedAt>
 {
     // The place is cast: from `usize` to `u64` there is no `From`.
     for (k, record) in PlanReader::at(plan, 0).enumerate() {
-        if let Err(refusal) = apply_record(n, sheet, record) {
-            return Err(RefusedAt {
-                refusal,
-                place: k as u64 + 1,
-            });
-        }
+        apply_record(n, sheet, record).map_err(|refusal| RefusedAt {
+            refusal,
+            place: k as u64 + 1,
+        })?;
     }
     Ok(())
 }

@@ -6,9 +6,9 @@ use Prim.Native.Nat.{ℕ, suc, ◌≤◌}
 use native.Mathlib.Nat.{lt_of_not-le}
 use native.Mathlib.Omega.{arith}
 use lib.ListN.{length}
-use Rattle.std.proofs.Common.{Option, Some, None}
-use Rattle.record.specs.declared.Record.{Record}
+use Rattle.std.proofs.Common.{Ok, Err}
 use Rattle.record.specs.declared.Record.TheVariants.{Insert, Delete}
+use Rattle.record.specs.Record.{Reading}
 use Rattle.answer.specs.Table.{First}
 use Rattle.sheet_theory.specs.Conditions.{BadVertices}
 use Rattle.answer.proofs.ByNumber.{first_not, first_holds, first_absent}
@@ -38,11 +38,11 @@ module _ (m : Model) (u v : ℕ) where
 
 -- ---- lists of records
 
-pub stops_closes : (m : Model) (l : List (Option Record)) (p : ℕ) → Stops m l 8 p → ClosesAt m l
+pub stops_closes : (m : Model) (l : List Reading) (p : ℕ) → Stops m l 8 p → ClosesAt m l
 stops_closes m l p o = go o.at o.split o.number
   where
-    go : (x : Option Record) → l ≡ o.before ++ (x ∷ o.rest) → RecordNumber o.model x 8 → ClosesAt m l
-    go (Some (Insert u v)) e f = record {
+    go : (x : Reading) → l ≡ o.before ++ (x ∷ o.rest) → RecordNumber o.model x 8 → ClosesAt m l
+    go (Ok (Insert u v)) e f = record {
       before = o.before;
       u = u;
       v = v;
@@ -52,16 +52,16 @@ stops_closes m l p o = go o.at o.split o.number
       taken = o.taken;
       closing = subst (λ n. Closing n o.model u v) (taken_vertices o.before m o.model o.taken) (insert_closing o.model u v f);
     }
-    go (Some (Delete u v)) e f = absurd (first_absent (model_conditions o.model (delete_edge o.model.vertices u v)) 8 f refl)
-    go None e f = absurd (omega (arith, f))
+    go (Ok (Delete u v)) e f = absurd (first_absent (model_conditions o.model (delete_edge o.model.vertices u v)) 8 f refl)
+    go (Err x) e f = absurd (omega (arith, f))
 
-pub closes_stops : (m : Model) (l : List (Option Record)) → ¬ (BadVertices m.vertices) → (c : ClosesAt m l) → Stops m l 8 (suc (length c.before))
+pub closes_stops : (m : Model) (l : List Reading) → ¬ (BadVertices m.vertices) → (c : ClosesAt m l) → Stops m l 8 (suc (length c.before))
 closes_stops m l few c =
     let q = taken_vertices c.before m c.model c.taken in
     let x = subst (λ n. Closing n c.model c.u c.v) (sym q) c.closing in
     record {
       before = c.before;
-      at = Some (Insert c.u c.v);
+      at = Ok (Insert c.u c.v);
       rest = c.rest;
       split = c.split;
       place = refl;

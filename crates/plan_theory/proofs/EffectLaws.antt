@@ -3,7 +3,7 @@ use mathlib.Core.Path.{◌≡◌, refl}
 use mathlib.Core.Logic.{inl, inr, ◌↔◌}
 use mathlib.Core.Bool.{Bool, true, false, false≢true}
 use Prim.Native.Nat.{ℕ, ◌+◌, ◌-◌}
-use Rattle.std.proofs.Common.{Some}
+use Rattle.std.proofs.Common.{Ok}
 use Rattle.record.specs.declared.Record.TheVariants.{Insert, Delete}
 use Rattle.edit_theory.specs.Edit.{one, named, changed}
 use Rattle.edit_theory.specs.Book.{Model}
@@ -24,9 +24,9 @@ with_cases inserts e u v i j = go (named (one u v) i j) (named_one u v i j)
     go false p = inr (λ q. false≢true (p.1 q), changed_other inserts (e i j))
 
 -- `L` inserts an edge from its first vertex to its second
-pub insert_effect : (m : Model) (u v i j : ℕ) → OnlyAt u v (m.edge u v + 1) i j (m.edge i j) ((record_effect m (Some (Insert u v))).edge i j)
+pub insert_effect : (m : Model) (u v i j : ℕ) → OnlyAt u v (m.edge u v + 1) i j (m.edge i j) ((record_effect m (Ok (Insert u v))).edge i j)
 insert_effect m = with_cases true m.edge
 
 -- and `T` deletes one
-pub delete_effect : (m : Model) (u v i j : ℕ) → OnlyAt u v (m.edge u v - 1) i j (m.edge i j) ((record_effect m (Some (Delete u v))).edge i j)
+pub delete_effect : (m : Model) (u v i j : ℕ) → OnlyAt u v (m.edge u v - 1) i j (m.edge i j) ((record_effect m (Ok (Delete u v))).edge i j)
 delete_effect m = with_cases false m.edge

@@ -8,7 +8,7 @@ use native.Mathlib.Decide.{ℕ_discrete}
 use native.Mathlib.Omega.{arith}
 use lib.ListN.{length, get_or, take, drop}
 use lib.Seq.{take_at, drop-drop}
-use Rattle.std.proofs.Common.{Option, Some, None}
+use Rattle.std.proofs.Common.{Ok, Err}
 use Rattle.sums.specs.Sum.{sum}
 use Rattle.sums.specs.Gather.{gather}
 use Rattle.sums.proofs.SumLaws.{sum_cong, sum_far, mul_sum}
@@ -16,8 +16,8 @@ use Rattle.sums.proofs.GatherLaws.{gather_length, gather_place}
 use Rattle.word.proofs.BitLaws.{bit_cases}
 use Rattle.text.specs.Text.{written}
 use Rattle.text.proofs.TextLaws.{written_length, written_after}
-use Rattle.record.specs.declared.Record.{Record}
 use Rattle.record.specs.declared.Record.TheVariants.{Insert, Delete}
+use Rattle.record.specs.Record.{Reading}
 use Rattle.record.specs.Reader.{record_at}
 use Rattle.record.proofs.InWords.{insert_words, delete_words, malformed_words}
 use Rattle.answer.specs.declared.Answer.{Answer}
@@ -63,13 +63,13 @@ module _ (n : ℕ) (plan : List ℕ) (m : ℕ) (q : Lent) where
   unfolding number_on
   record_words = go (record_at plan m) refl
     where
-      on : {x : Option Record} → record_at plan m ≡ x → Gives (number_on n q x) (left_by n q x)
+      on : {x : Reading} → record_at plan m ≡ x → Gives (number_on n q x) (left_by n q x)
       on e = (ap (number_on n q) e, ap (left_by n q) e)
 
-      go : (x : Option Record) → record_at plan m ≡ x → Done
-      go (Some (Insert u v)) e = inl (u, v, (insert_words plan m u v).0 e, on e)
-      go (Some (Delete u v)) e = inr (inl (u, v, (delete_words plan m u v).0 e, on e))
-      go None e = inr (inr ((malformed_words plan m).0 e, on e))
+      go : (x : Reading) → record_at plan m ≡ x → Done
+      go (Ok (Insert u v)) e = inl (u, v, (insert_words plan m u v).0 e, on e)
+      go (Ok (Delete u v)) e = inr (inl (u, v, (delete_words plan m u v).0 e, on e))
+      go (Err x) e = inr (inr ((malformed_words plan m).0 e, on e))
 
 -- ---- records one after the other
 
@@ -104,7 +104,7 @@ module _ (n : ℕ) (plan : List ℕ) (T : ℕ → Lent → Type 0)
 
   pub applied_words : (s : Lent) → T 0 s → Comes (applied_plan n s plan)
   applied_words s t =
-      subst (λ (l : List (Option Record)). Comes (applied n l s 1)) (sym (records_first plan)) (come_from (length plan / 8) 0 s (omega arith) t)
+      subst (λ (l : List Reading). Comes (applied n l s 1)) (sym (records_first plan)) (come_from (length plan / 8) 0 s (omega arith) t)
 
   -- ---- read_plan
 

@@ -3,10 +3,9 @@ use mathlib.Core.Path.{◌≡◌, refl, sym, ◌∙◌}
 use mathlib.Core.List.{List}
 use Prim.Native.Nat.{ℕ, suc, ◌*◌, ◌≤◌}
 use lib.ListN.{length, take, drop}
-use Rattle.std.proofs.Common.{Option, Some, None}
-use Rattle.record.specs.declared.Record.{Record}
+use Rattle.std.proofs.Common.{Ok, Err}
 use Rattle.record.specs.declared.Record.TheVariants.{Insert, Delete}
-use Rattle.record.specs.Record.{OfForm}
+use Rattle.record.specs.Record.{Reading, malformed, OfForm}
 use Rattle.record.proofs.RecordLaws.{malformed_iff}
 use Rattle.answer.proofs.ByNumber.{first_absent}
 use Rattle.edit_theory.specs.Edit.{insert_edge, delete_edge}
@@ -24,7 +23,7 @@ stops_malformed m plan p o =
     (length o.before, o.place, r.0, (malformed_iff _).0 (sym r.1 ∙ only o.at o.number))
   where
     -- no edit of one edge has this number
-    only : (x : Option Record) → RecordNumber o.model x 14 → x ≡ None
-    only (Some (Insert u v)) f = absurd (first_absent (model_conditions o.model (insert_edge o.model.vertices u v)) 14 f refl)
-    only (Some (Delete u v)) f = absurd (first_absent (model_conditions o.model (delete_edge o.model.vertices u v)) 14 f refl)
-    only None f = refl
+    only : (x : Reading) → RecordNumber o.model x 14 → x ≡ Err malformed
+    only (Ok (Insert u v)) f = absurd (first_absent (model_conditions o.model (insert_edge o.model.vertices u v)) 14 f refl)
+    only (Ok (Delete u v)) f = absurd (first_absent (model_conditions o.model (delete_edge o.model.vertices u v)) 14 f refl)
+    only (Err x) f = refl

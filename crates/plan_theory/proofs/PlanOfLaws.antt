@@ -10,7 +10,7 @@ use native.Mathlib.Omega.{arith}
 use lib.Dec.{ltb}
 use lib.ListN.{length, take, drop, length-append, length-drop}
 use lib.Seq.{take-append-le, drop-append-le}
-use Rattle.std.proofs.Common.{Option, Some}
+use Rattle.std.proofs.Common.{Ok}
 use Rattle.sums.proofs.SumLaws.{sum_cong}
 use Rattle.sums.proofs.GatherLaws.{gather_cong, gather_length}
 use Rattle.word.specs.Bit.{has_bit}
@@ -18,9 +18,8 @@ use Rattle.word.proofs.BitLaws.{bit_cases}
 use Rattle.graph.specs.Graph.{◌is_in◌}
 use Rattle.graph.proofs.Lists.{gather_in, gather_of}
 use Rattle.sums.specs.Gather.{gather}
-use Rattle.record.specs.declared.Record.{Record}
 use Rattle.record.specs.declared.Record.TheVariants.{Insert}
-use Rattle.record.specs.Record.{insert_letter, encoded, decoded}
+use Rattle.record.specs.Record.{Reading, insert_letter, encoded, decoded}
 use Rattle.record.proofs.RecordLaws.{decoded_encoded}
 use Rattle.sheet_theory.specs.Layout.{row_at, edge_at, set_bits}
 use Rattle.sheet_theory.specs.Lent.{Lent}
@@ -53,15 +52,15 @@ edge_records_length n s =
     gather_length n (row_inserts n s) ∙ sum_cong n _ _ (λ i hi. gather_length n (edge_insert s i) ∙ sum_cong n _ _ (λ j hj. said_length s i j))
 
 -- each of them is an edge
-pub said_of : (s : Lent) (i j : ℕ) (x : Option Record) → x is_in edge_insert s i j → (x ≡ Some (Insert i j)) × (edge_at s.words i j ≡ 1)
+pub said_of : (s : Lent) (i j : ℕ) (x : Reading) → x is_in edge_insert s i j → (x ≡ Ok (Insert i j)) × (edge_at s.words i j ≡ 1)
 said_of s i j x m =
     elim (bit_cases (row_at s.words i) j) [
       | inl e ↦ absurd (rw e at m)
       | inr e ↦ elim (rw e at m) [ inl q ↦ (q, e) | inr q ↦ absurd q ]
     ]
 
-pub edge_records_of : (n : ℕ) (s : Lent) (x : Option Record) → x is_in edge_records n s
-    → (i : ℕ) × (i < n) × (j : ℕ) × (j < n) × (x ≡ Some (Insert i j)) × (edge_at s.words i j ≡ 1)
+pub edge_records_of : (n : ℕ) (s : Lent) (x : Reading) → x is_in edge_records n s
+    → (i : ℕ) × (i < n) × (j : ℕ) × (j < n) × (x ≡ Ok (Insert i j)) × (edge_at s.words i j ≡ 1)
 unfolding edge_records
 edge_records_of n s x m =
     let r = gather_of n (row_inserts n s) x m in
@@ -69,25 +68,25 @@ edge_records_of n s x m =
     let p = said_of s r.0 q.0 x q.2 in
     (r.0, r.1, q.0, q.1, p.0, p.1)
 
-pub insert_only : (u v i j : ℕ) → Some (Insert u v) ≡ Some (Insert i j) → (u ≡ i) × (v ≡ j)
+pub insert_only : (u v i j : ℕ) → ◌≡◌ {A = Reading} (Ok (Insert u v)) (Ok (Insert i j)) → (u ≡ i) × (v ≡ j)
 unfolding edge_of
-insert_only u v i j e = (ap (λ (x : Option Record). (edge_of x).0) e, ap (λ (x : Option Record). (edge_of x).1) e)
+insert_only u v i j e = (ap (λ (x : Reading). (edge_of x).0) e, ap (λ (x : Reading). (edge_of x).1) e)
 
 -- and each edge is one of them
-pub edge_records_iff : (n : ℕ) (s : Lent) (i j : ℕ) → i < n → j < n → (Some (Insert i j) is_in edge_records n s) ↔ (edge_at s.words i j ≡ 1)
+pub edge_records_iff : (n : ℕ) (s : Lent) (i j : ℕ) → i < n → j < n → (Ok (Insert i j) is_in edge_records n s) ↔ (edge_at s.words i j ≡ 1)
 unfolding edge_records
 edge_records_iff n s i j hi hj = (
   λ m.
-      let r = edge_records_of n s (Some (Insert i j)) m in
+      let r = edge_records_of n s (Ok (Insert i j)) m in
       let q = insert_only i j r.0 r.2 r.4 in
       ap₂ (λ (x y : ℕ). edge_at s.words x y) q.0 q.1 ∙ r.5,
-  λ e. gather_in n (row_inserts n s) (Some (Insert i j)) i hi (gather_in n (edge_insert s i) (Some (Insert i j)) j hj (rw e (inl refl))),
+  λ e. gather_in n (row_inserts n s) (Ok (Insert i j)) i hi (gather_in n (edge_insert s i) (Ok (Insert i j)) j hj (rw e (inl refl))),
 )
 
 -- ---- reading
 
 -- the bytes b are the records l, one after the other
-record Coded (b : List ℕ) (l : List (Option Record)) : Type 0 where
+record Coded (b : List ℕ) (l : List Reading) : Type 0 where
   long : length b ≡ 8 * length l
   said : first_records (length l) b ≡ l
 
@@ -99,13 +98,13 @@ records_append (suc m) k b c e =
     let h : 8 ≤ length b = omega arith in
     ap (λ (x : ℕ). first_records x (b ++ c)) (suc-add m k)
     ∙ ap₂ (λ (x y : List ℕ). decoded x ∷ first_records (m + k) y) (take-append-le 8 b c h) (drop-append-le 8 b c h)
-    ∙ ap (λ (l : List (Option Record)). decoded (take 8 b) ∷ l) (records_append m k (drop 8 b) c (omega (arith, length-drop 8 b)))
+    ∙ ap (λ (l : List Reading). decoded (take 8 b) ∷ l) (records_append m k (drop 8 b) c (omega (arith, length-drop 8 b)))
 
 coded_none : Coded [] []
 unfolding first_records
 coded_none = record { long = refl; said = refl }
 
-coded_append : (b c : List ℕ) (l k : List (Option Record)) → Coded b l → Coded c k → Coded (b ++ c) (l ++ k)
+coded_append : (b c : List ℕ) (l k : List Reading) → Coded b l → Coded c k → Coded (b ++ c) (l ++ k)
 coded_append b c l k p q = record {
   long = omega (arith, length-append b c, length-append l k, p.long, q.long);
   said = ap (λ (x : ℕ). first_records x (b ++ c)) (length-append l k)
@@ -113,14 +112,14 @@ coded_append b c l k p q = record {
       ∙ ap₂ ◌++◌ p.said q.said;
 }
 
-coded_gather : (n : ℕ) (f : ℕ → List ℕ) (g : ℕ → List (Option Record)) → ((i : ℕ) → i < n → Coded (f i) (g i)) → Coded (gather n f) (gather n g)
+coded_gather : (n : ℕ) (f : ℕ → List ℕ) (g : ℕ → List Reading) → ((i : ℕ) → i < n → Coded (f i) (g i)) → Coded (gather n f) (gather n g)
 unfolding gather
 coded_gather zero f g h = coded_none
 coded_gather (suc n) f g h = coded_append (gather n f) (f n) (gather n g) (g n) (coded_gather n f g (λ i hi. h i (omega arith))) (h n (omega arith))
 
-coded_edge : (t : Bool) (i j : ℕ) → i < 100 → j < 100 → Coded (cond t (encoded insert_letter i j) []) (cond t (Some (Insert i j) ∷ []) [])
+coded_edge : (t : Bool) (i j : ℕ) → i < 100 → j < 100 → Coded (cond t (encoded insert_letter i j) []) (cond t (Ok (Insert i j) ∷ []) [])
 unfolding first_records
-coded_edge true i j hi hj = record { long = refl; said = ap (λ (x : Option Record). x ∷ []) (decoded_encoded insert_letter i j hi hj) }
+coded_edge true i j hi hj = record { long = refl; said = ap (λ (x : Reading). x ∷ []) (decoded_encoded insert_letter i j hi hj) }
 coded_edge false i j hi hj = coded_none
 
 plan_coded : (n : ℕ) (s : Lent) → n ≤ 64 → Coded (plan_of n s) (edge_records n s)

@@ -6,19 +6,18 @@ use Prim.Native.Nat.{ℕ, zero, suc, ◌+◌, ◌-◌, ◌*◌, ◌/◌, ◌%◌
 use native.Mathlib.Omega.{arith}
 use lib.ListN.{length, take, drop}
 use lib.Seq.{drop-drop}
-use Rattle.std.proofs.Common.{Option, map}
+use Rattle.std.proofs.Common.{map}
 use Rattle.std.specs.Int.{div_ceil}
 use Rattle.std.specs.List.{range_with_len}
 use Rattle.sums.specs.Gather.{gather}
 use Rattle.sums.proofs.SumLaws.{sum_const}
 use Rattle.sums.proofs.GatherLaws.{gather_none, gather_first, gather_cong, gather_length}
-use Rattle.record.specs.declared.Record.{Record}
-use Rattle.record.specs.Record.{decoded}
+use Rattle.record.specs.Record.{Reading, decoded}
 use Rattle.record.specs.Reader.{record_at, records_from}
 use Rattle.plan_theory.specs.Records.{records}
 
 -- the first m records of some bytes, taken from the front
-unfoldable pub first_records : ℕ → List ℕ → List (Option Record)
+unfoldable pub first_records : ℕ → List ℕ → List Reading
 first_records zero b = []
 first_records (suc m) b = decoded (take 8 b) ∷ first_records m (drop 8 b)
 
@@ -33,20 +32,20 @@ unfolding first_records
 first_are zero b = gather_none (λ k. record_at b k ∷ [])
 first_are (suc m) b =
     gather_first m (λ k. record_at b k ∷ [])
-    ∙ ap (λ (l : List (Option Record)). record_at b 0 ∷ l)
-    (gather_cong m _ _ (λ k h. ap (λ (x : Option Record). x ∷ []) (sym (record_later b k))) ∙ first_are m (drop 8 b))
+    ∙ ap (λ (l : List Reading). record_at b 0 ∷ l)
+    (gather_cong m _ _ (λ k h. ap (λ (x : Reading). x ∷ []) (sym (record_later b k))) ∙ first_are m (drop 8 b))
 
 pub records_first : (plan : List ℕ) → records plan ≡ first_records (length plan / 8) plan
 records_first plan = first_are (length plan / 8) plan
 
 -- a reader gives them, where all are whole
-each_in_range : (f : ℕ → Option Record) (m k : ℕ) → gather m (λ j. f (k + j) ∷ []) ≡ map f (range_with_len k m)
+each_in_range : (f : ℕ → Reading) (m k : ℕ) → gather m (λ j. f (k + j) ∷ []) ≡ map f (range_with_len k m)
 each_in_range f zero k = gather_none (λ j. f (k + j) ∷ [])
 each_in_range f (suc m) k =
     let here : k + 0 ≡ k = omega arith in
     let next : (j : ℕ) → k + suc j ≡ k + 1 + j = λ j. omega arith in
     gather_first m (λ j. f (k + j) ∷ [])
-    ∙ ap₂ (λ (i : ℕ) (l : List (Option Record)). f i ∷ l) here
+    ∙ ap₂ (λ (i : ℕ) (l : List Reading). f i ∷ l) here
     (gather_cong m _ _ (λ j h. ap (λ (i : ℕ). f i ∷ []) (next j)) ∙ each_in_range f m (k + 1))
 
 pub records_given : (plan : List ℕ) → length plan % 8 ≡ 0 → records_from plan 0 ≡ records plan
@@ -62,7 +61,7 @@ pub records_length : (plan : List ℕ) → length (records plan) ≡ length plan
 records_length plan = gather_length (length plan / 8) (λ k. record_at plan k ∷ []) ∙ omega (arith, sum_const (length plan / 8) 1)
 
 -- of the first m records of b, the one after k others is the record k
-from_split : (m : ℕ) (b : List ℕ) (before rest : List (Option Record)) (x : Option Record) → first_records m b ≡ before ++ (x ∷ rest)
+from_split : (m : ℕ) (b : List ℕ) (before rest : List Reading) (x : Reading) → first_records m b ≡ before ++ (x ∷ rest)
     → (length before < m) × (x ≡ record_at b (length before))
 unfolding first_records
 from_split zero b [] rest x e = absurd (omega (arith, ap length e))
@@ -72,7 +71,7 @@ from_split (suc m) b (y ∷ before) rest x e =
     let r = from_split m (drop 8 b) before rest x (cc e) in (omega (arith, r.0), r.1 ∙ record_later b (length before))
 
 -- of all records of a plan, and its 8 bytes are in the plan
-pub records_split : (plan : List ℕ) (before rest : List (Option Record)) (x : Option Record) → records plan ≡ before ++ (x ∷ rest)
+pub records_split : (plan : List ℕ) (before rest : List Reading) (x : Reading) → records plan ≡ before ++ (x ∷ rest)
     → (8 * suc (length before) ≤ length plan) × (x ≡ record_at plan (length before))
 records_split plan before rest x e =
     let r = from_split _ plan before rest x (sym (records_first plan) ∙ e) in (omega (arith, r.0), r.1)

@@ -7,11 +7,11 @@ use Prim.Native.Nat.{ℕ, ◌≤◌, ◌<◌}
 use native.Mathlib.Decide.{ℕ_discrete}
 use native.Mathlib.Omega.{arith}
 use lib.ListN.{length, take}
-use Rattle.std.proofs.Common.{Option, Some, None}
+use Rattle.std.proofs.Common.{Ok, Err}
 use Rattle.graph.specs.Graph.{◌is_in◌, Distinct, Edge, Acyclic}
 use Rattle.graph.proofs.Walks.{cycle_widen, cycle_of, reach_refl}
-use Rattle.record.specs.declared.Record.{Record}
 use Rattle.record.specs.declared.Record.TheVariants.{Insert, Delete}
+use Rattle.record.specs.Record.{Reading}
 use Rattle.answer.specs.declared.Answer.{Answer}
 use Rattle.answer.specs.Table.{◌gives◌, First}
 use Rattle.answer.specs.Answers.{answer}
@@ -52,17 +52,17 @@ abbrev model : ℕ → (ℕ → ℕ → ℕ) → Model
 model n e = record { vertices = n; edge = e }
 
 -- the model of the edges e takes l, and has those that l inserts besides
-record Gained (n : ℕ) (e : ℕ → ℕ → ℕ) (l : List (Option Record)) : Type 0 where
+record Gained (n : ℕ) (e : ℕ → ℕ → ℕ) (l : List Reading) : Type 0 where
   pub edge : ℕ → ℕ → ℕ
   pub taken : Taken (model n e) l (model n edge)
-  pub edges : (i j : ℕ) → (0 < edge i j) ↔ ((0 < e i j) ⊎ (Some (Insert i j) is_in l))
+  pub edges : (i j : ℕ) → (0 < edge i j) ↔ ((0 < e i j) ⊎ (Ok (Insert i j) is_in l))
 
 gained_none : (n : ℕ) (e : ℕ → ℕ → ℕ) → Gained n e []
 unfolding Taken
 gained_none n e = record { edge = e; taken = refl; edges = λ i j. (λ h. inl h, λ h. elim h [ inl a ↦ a | inr a ↦ absurd a ]) }
 
-gained_more : (n : ℕ) (e : ℕ → ℕ → ℕ) (u v : ℕ) (l : List (Option Record)) → RecordNumber (model n e) (Some (Insert u v)) 0 → Gained n (with true e u v) l
-    → Gained n e (Some (Insert u v) ∷ l)
+gained_more : (n : ℕ) (e : ℕ → ℕ → ℕ) (u v : ℕ) (l : List Reading) → RecordNumber (model n e) (Ok (Insert u v)) 0 → Gained n (with true e u v) l
+    → Gained n e (Ok (Insert u v) ∷ l)
 unfolding Taken
 gained_more n e u v l f g = record {
   edge = g.edge;
@@ -71,7 +71,7 @@ gained_more n e u v l f g = record {
       let p = g.edges i j in
       let c = with_iff e u v i j in (
         λ h. elim (p.0 h) [
-          | inl a ↦ elim (c.0 a) [ inl b ↦ inr (inl (ap₂ (λ (x y : ℕ). Some (Insert x y)) b.0 b.1)) | inr b ↦ inl b ]
+          | inl a ↦ elim (c.0 a) [ inl b ↦ inr (inl (ap₂ (λ (x y : ℕ). Ok (Insert x y)) b.0 b.1)) | inr b ↦ inl b ]
           | inr a ↦ inr (inr a)
         ],
         λ h. elim h [
@@ -87,39 +87,39 @@ module _ (n : ℕ) (w : ℕ → ℕ → ℕ) where
   Within e = (i j : ℕ) → i < n → j < n → Edge n e i j → Edge n w i j
 
   -- x inserts an edge of w that is not one of e
-  abbrev New : (ℕ → ℕ → ℕ) → Option Record → Type 0
-  New e (Some (Insert u v)) = (u < n) × (v < n) × Edge n w u v × (e u v ≡ 0)
-  New e (Some (Delete u v)) = ⊥
-  New e None = ⊥
+  abbrev New : (ℕ → ℕ → ℕ) → Reading → Type 0
+  New e (Ok (Insert u v)) = (u < n) × (v < n) × Edge n w u v × (e u v ≡ 0)
+  New e (Ok (Delete u v)) = ⊥
+  New e (Err x) = ⊥
 
   with_within : (e : ℕ → ℕ → ℕ) (u v : ℕ) → Edge n w u v → Within e → Within (with true e u v)
   with_within e u v h within i j hi hj p =
       elim (with_cases true e u v i j) [ inl c ↦ rw (c.0, c.1) h | inr c ↦ within i j hi hj (rw c.1 at p) ]
 
-  with_new : (e : ℕ → ℕ → ℕ) (u v : ℕ) (x : Option Record) → ¬ (x ≡ Some (Insert u v)) → New e x → New (with true e u v) x
-  with_new e u v (Some (Insert i j)) d (hi, hj, h, z) =
-      (hi, hj, h, elim (with_cases true e u v i j) [ inl c ↦ absurd (d (ap₂ (λ (x y : ℕ). Some (Insert x y)) c.0 c.1)) | inr c ↦ c.1 ∙ z ])
-  with_new e u v (Some (Delete i j)) d h = h
-  with_new e u v None d h = h
+  with_new : (e : ℕ → ℕ → ℕ) (u v : ℕ) (x : Reading) → ¬ (x ≡ Ok (Insert u v)) → New e x → New (with true e u v) x
+  with_new e u v (Ok (Insert i j)) d (hi, hj, h, z) =
+      (hi, hj, h, elim (with_cases true e u v i j) [ inl c ↦ absurd (d (ap₂ (λ (x y : ℕ). Ok (Insert x y)) c.0 c.1)) | inr c ↦ c.1 ∙ z ])
+  with_new e u v (Ok (Delete i j)) d h = h
+  with_new e u v (Err x) d h = h
 
   module _ (low : 1 ≤ n) (high : n ≤ 64) (acyclic : Acyclic n w) where
     -- inserting one is accepted: a cycle would be one of w
-    new_passes : (e : ℕ → ℕ → ℕ) (u v : ℕ) → Within e → New e (Some (Insert u v)) → RecordNumber (model n e) (Some (Insert u v)) 0
+    new_passes : (e : ℕ → ℕ → ℕ) (u v : ℕ) → Within e → New e (Ok (Insert u v)) → RecordNumber (model n e) (Ok (Insert u v)) 0
     new_passes e u v within (hu, hv, h, z) =
         insert_first (model n e) u v (λ c. elim c [ inl l ↦ omega arith | inr l ↦ omega arith ]) hu hv
         (λ q. acyclic (cycle_of n w u u hu hu (rw (← q) at h) (reach_refl n w u))) (λ q. omega (arith, z, q)) 0
         (inr (λ c. acyclic (cycle_widen n (with true e u v) w (with_within e u v h within) c), refl))
 
     -- records that insert edges of w, each once and none of them there, are all accepted
-    inserts_taken : (l : List (Option Record)) (e : ℕ → ℕ → ℕ) → Distinct l → ((x : Option Record) → x is_in l → New e x) → Within e → Gained n e l
+    inserts_taken : (l : List Reading) (e : ℕ → ℕ → ℕ) → Distinct l → ((x : Reading) → x is_in l → New e x) → Within e → Gained n e l
     inserts_taken [] e d new within = gained_none n e
-    inserts_taken (Some (Insert u v) ∷ l) e d new within =
-        let h = new (Some (Insert u v)) (inl refl) in
+    inserts_taken (Ok (Insert u v) ∷ l) e d new within =
+        let h = new (Ok (Insert u v)) (inl refl) in
         gained_more n e u v l (new_passes e u v within h)
         (inserts_taken l (with true e u v) d.1
         (λ x q. with_new e u v x (λ c. d.0 (rw c at q)) (new x (inr q))) (with_within e u v h.2 within))
-    inserts_taken (Some (Delete u v) ∷ l) e d new within = absurd (new (Some (Delete u v)) (inl refl))
-    inserts_taken (None ∷ l) e d new within = absurd (new None (inl refl))
+    inserts_taken (Ok (Delete u v) ∷ l) e d new within = absurd (new (Ok (Delete u v)) (inl refl))
+    inserts_taken (Err x ∷ l) e d new within = absurd (new (Err x) (inl refl))
 
 -- ---- the plan of a valid sheet, read into the empty one
 
@@ -129,7 +129,7 @@ module _ (n : ℕ) (s : Lent) (valid : Valid n s) where
   none = mult_at n (empty_lent n)
 
   -- each record of the plan inserts an edge of s that is not there yet
-  plan_new : (x : Option Record) → x is_in edge_records n s → New n (edge_at s.words) none x
+  plan_new : (x : Reading) → x is_in edge_records n s → New n (edge_at s.words) none x
   plan_new x m =
       let r = edge_records_of n s x m in
       rw r.4 (r.1, r.3, omega (arith, r.5), empty_edge n r.0 r.2 r.1 r.3)

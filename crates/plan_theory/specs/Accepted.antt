@@ -1,6 +1,6 @@
 -- What holds of a plan that is accepted. Definitions only. Assumes nothing.
-use Rattle.std.specs.Prelude.{◌≡◌, Option, List, map, ℕ, length, replicate}
-use Rattle.record.specs.declared.Record.{Record}
+use Rattle.std.specs.Prelude.{◌≡◌, List, map, ℕ, length, replicate}
+use Rattle.record.specs.Record.{Reading}
 use Rattle.answer.specs.declared.Answer.{Answer}
 use Rattle.answer.specs.Answers.{answer}
 use Rattle.sheet_theory.specs.Layout.{set_bits}
@@ -14,7 +14,7 @@ use Rattle.plan_theory.specs.Records.{records, edits}
 use Rattle.plan_theory.specs.Taken.{Taken}
 
 -- the answers rs: one for each record of l, and its number is 0
-abbrev pub Accepted : List (Option Record) → List Answer → Type 0
+abbrev pub Accepted : List Reading → List Answer → Type 0
 Accepted l rs = map (λ (r : Answer). r.number) rs ≡ replicate (length l) 0
 
 -- the plan is accepted on the sheet s of n vertices, with the answer r, and leaves t

@@ -6,13 +6,12 @@ use native.Mathlib.Omega.{arith}
 use native.Mathlib.Decide.{dec_lt}
 use lib.ListN.{length, take, drop, length-drop}
 use lib.Seq.{take_all}
-use Rattle.std.proofs.Common.{Option, add-one}
+use Rattle.std.proofs.Common.{add-one}
 use Rattle.std.specs.Int.{div_ceil}
 use Rattle.std.proofs.lemmas.Iterator.{YieldsList}
 use Rattle.std.proofs.lemmas.Iterator.Consumers.{YieldsList-from_shown}
-use Rattle.record.specs.declared.Record.{Record}
 use Rattle.record.specs.declared.reader.PlanReader.{PlanReader}
-use Rattle.record.specs.Record.{decoded}
+use Rattle.record.specs.Record.{Reading, decoded}
 use Rattle.record.specs.Reader.{record_at, records_from, records_left, Reads}
 
 module _ (plan : List ℕ) (k : ℕ) where
@@ -28,7 +27,7 @@ module _ (plan : List ℕ) (k : ℕ) where
 
   -- ---- what is known of it
 
-  pub reading_read : (x : Option Record) (l : List (Option Record)) → records_from plan k ≡ x ∷ l
+  pub reading_read : (x : Reading) (l : List Reading) → records_from plan k ≡ x ∷ l
       → (8 * k < length plan) × (x ≡ record_at plan k) × (l ≡ records_from plan (suc k))
   reading_read x l e =
       elim (dec_lt (8 * k) (length plan)) [
@@ -41,7 +40,7 @@ module _ (plan : List ℕ) (k : ℕ) where
 
   -- ---- `next`: the rest of the plan is all that is left of it
 
-  pub reading_next : 8 * k < length plan → (r : Option Record) → r ≡ decoded (take 8 (take (length plan - 8 * k) (drop (8 * k) plan)))
+  pub reading_next : 8 * k < length plan → (r : Reading) → r ≡ decoded (take 8 (take (length plan - 8 * k) (drop (8 * k) plan)))
       → records_from plan k ≡ r ∷ records_from plan (k + 1)
   reading_next h r er =
       let one : k + 1 ≡ suc k = omega arith in

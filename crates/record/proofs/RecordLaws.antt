@@ -10,10 +10,9 @@ use borrow.Author.Tests.{ltb-true, le-leb, eqb-true, ne_eqb}
 use lib.Dec.{ltb, eqb}
 use lib.ListN.{length, get_or, drop}
 use lib.Seq.{drop-cons, drop-length}
-use Rattle.std.proofs.Common.{Option, Some, None}
-use Rattle.record.specs.declared.Record.{Record}
+use Rattle.std.proofs.Common.{Ok, Err}
 use Rattle.record.specs.declared.Record.TheVariants.{Insert, Delete}
-use Rattle.record.specs.Record.{insert_letter, delete_letter, encoded, IsRecord, OfForm, Says, record_number, rest_fits, said}
+use Rattle.record.specs.Record.{insert_letter, delete_letter, encoded, IsRecord, OfForm, Reading, malformed, Says, record_number, rest_fits, said}
 use Rattle.record.specs.Record.{are_digits, from_digits, by_letter, decoded}
 use Rattle.record.proofs.CodecLaws.{digits}
 
@@ -43,7 +42,7 @@ unfolding decoded
 decoded_encoded c u v hu hv = rw (digits_of u hu, digits_of v hv, from_digits_of u, from_digits_of v) refl
 
 pub read_back : (u v : ℕ) → u < 100 → v < 100
-    → (decoded (encoded insert_letter u v) ≡ Some (Insert u v)) × (decoded (encoded delete_letter u v) ≡ Some (Delete u v))
+    → (decoded (encoded insert_letter u v) ≡ Ok (Insert u v)) × (decoded (encoded delete_letter u v) ≡ Ok (Delete u v))
 read_back u v hu hv = (decoded_encoded insert_letter u v hu hv, decoded_encoded delete_letter u v hu hv)
 
 -- the letters and the digits are bytes of the record
@@ -65,7 +64,7 @@ eight b e = next 0 refl (next 1 refl (next 2 refl (next 3 refl (next 4 refl (nex
     none : drop 8 b ≡ []
     none = ap (λ (n : ℕ). drop n b) (sym e) ∙ drop-length b
 
-passed : {P : Type 0} (t : Bool) (r : Option Record) → (t ≡ true → P) → (cond t r None ≡ None) ⊎ P
+passed : {P : Type 0} (t : Bool) (r : Reading) → (t ≡ true → P) → (cond t r (Err malformed) ≡ Err malformed) ⊎ P
 passed true r f = inr (f refl)
 passed false r f = inl refl
 
@@ -96,7 +95,7 @@ module _ (b : List ℕ) where
       (x.0, y.0, bytes ∙ rw (e₁, e₄, e₇, x.1, x.2, y.1, y.2) refl)
 
   -- what says a record is the record of some letter and numbers
-  formed : (decoded b ≡ None) ⊎ ((c : ℕ) × (u : ℕ) × (v : ℕ) × IsRecord b c u v)
+  formed : (decoded b ≡ Err malformed) ⊎ ((c : ℕ) × (u : ℕ) × (v : ℕ) × IsRecord b c u v)
   unfolding decoded
   formed = passed (eqb (length b) 8 && rest_fits at) (said at) (λ e. (at 0, from, to, fits e))
 
@@ -120,45 +119,45 @@ module _ (b : List ℕ) where
   record_decoded : (c u v : ℕ) → IsRecord b c u v → decoded b ≡ by_letter c u v
   record_decoded c u v h = ap decoded h.2 ∙ decoded_encoded c u v h.0 h.1
 
-  not_formed : decoded b ≡ None → ¬ (OfForm b)
+  not_formed : decoded b ≡ Err malformed → ¬ (OfForm b)
   not_formed e f = ⊎_elim (λ w. differs refl (record_decoded insert_letter _ _ w)) (λ w. differs refl (record_decoded delete_letter _ _ w)) f.2
     where
-      differs : {r : Option Record} → record_number r ≡ 0 → decoded b ≡ r → ⊥
+      differs : {r : Reading} → record_number r ≡ 0 → decoded b ≡ r → ⊥
       differs z p = omega (arith, z, ap record_number (sym p ∙ e))
 
   pub decoded_says : Says b (decoded b)
   decoded_says =
       ⊎_elim
-      (λ (e : decoded b ≡ None). rw e (not_formed e))
+      (λ (e : decoded b ≡ Err malformed). rw e (not_formed e))
       (λ w. let h = w.3 in rw (record_decoded _ _ _ h) (rw h.2 (says_encoded w.0 w.1 w.2 h.0 h.1)))
       (formed b)
 
-  -- what is not of the form says none
-  malformed : (r : Option Record) → Says b r → ¬ (OfForm b) → r ≡ None
-  malformed (Some (Insert u v)) h n = absurd (n (u, v, inl h))
-  malformed (Some (Delete u v)) h n = absurd (n (u, v, inr h))
-  malformed None h n = refl
+  -- what is not of the form says that it is malformed
+  says_malformed : (r : Reading) → Says b r → ¬ (OfForm b) → r ≡ Err malformed
+  says_malformed (Ok (Insert u v)) h n = absurd (n (u, v, inl h))
+  says_malformed (Ok (Delete u v)) h n = absurd (n (u, v, inr h))
+  says_malformed (Err e) h n = refl
 
-  says_decoded : (r : Option Record) → Says b r → decoded b ≡ r
-  says_decoded (Some (Insert u v)) h = record_decoded insert_letter u v h
-  says_decoded (Some (Delete u v)) h = record_decoded delete_letter u v h
-  says_decoded None h = malformed (decoded b) decoded_says h
+  says_decoded : (r : Reading) → Says b r → decoded b ≡ r
+  says_decoded (Ok (Insert u v)) h = record_decoded insert_letter u v h
+  says_decoded (Ok (Delete u v)) h = record_decoded delete_letter u v h
+  says_decoded (Err e) h = says_malformed (decoded b) decoded_says h
 
-  pub says_only : (r r' : Option Record) → Says b r → Says b r' → r ≡ r'
+  pub says_only : (r r' : Reading) → Says b r → Says b r' → r ≡ r'
   says_only r r' h h' = sym (says_decoded r h) ∙ says_decoded r' h'
 
-  -- the bytes are read to say r if and only if they say it: a record what was written, and all else none
-  pub decoded_iff : (r : Option Record) → (decoded b ≡ r) ↔ Says b r
+  -- the bytes are read to say r if and only if they say it: a record what was written, and all else malformed
+  pub decoded_iff : (r : Reading) → (decoded b ≡ r) ↔ Says b r
   decoded_iff r = (λ e. subst (Says b) e decoded_says, says_decoded r)
 
-  pub malformed_iff : (decoded b ≡ None) ↔ (¬ (OfForm b))
-  malformed_iff = decoded_iff None
+  pub malformed_iff : (decoded b ≡ Err malformed) ↔ (¬ (OfForm b))
+  malformed_iff = decoded_iff (Err malformed)
 
   -- refusal 14, in both directions
   pub number_iff : (record_number (decoded b) ≡ 14) ↔ (¬ (OfForm b))
   number_iff = (λ e. not_formed (is_malformed (decoded b) e), λ n. ap record_number (malformed_iff.1 n))
     where
-      is_malformed : (r : Option Record) → record_number r ≡ 14 → r ≡ None
-      is_malformed (Some (Insert u v)) e = absurd (omega (arith, e))
-      is_malformed (Some (Delete u v)) e = absurd (omega (arith, e))
-      is_malformed None e = refl
+      is_malformed : (r : Reading) → record_number r ≡ 14 → r ≡ Err malformed
+      is_malformed (Ok (Insert u v)) e = absurd (omega (arith, e))
+      is_malformed (Ok (Delete u v)) e = absurd (omega (arith, e))
+      is_malformed (Err x) e = refl

@@ -2,8 +2,8 @@
 // and read, and a reader goes over those of a plan.
 #![tactic(auto)]
 
-ghost use Rattle.std.specs.Prelude.{◌≡◌, ◌<◌, cond, Some, None, take};
-ghost use Rattle.record.specs.Record.{record_bytes, encoded, are_digits, from_digits, decoded};
+ghost use Rattle.std.specs.Prelude.{◌≡◌, ◌<◌, cond, Ok, Err, take};
+ghost use Rattle.record.specs.Record.{record_bytes, encoded, malformed, are_digits, from_digits, decoded};
 
 pub mod reader;
 
@@ -20,6 +20,10 @@ impl Record {
     // The bytes of a record.
     pub const BYTES: usize = 8;
 }
+
+// Why bytes say no record: they are not of the form of one.
+#[derive(Clone, Copy, Debug, PartialEq, Eq)]
+pub struct Malformed;
 
 // Internal: the record of a letter and two numbers below 100.
 pub fn encode(letter: u8, from: usize, to: usize) -> [u8; Record::BYTES]
@@ -38,29 +42,29 @@ pub fn encode(letter: u8, from: usize, to: usize) -> [u8; Record::BYTES]
     ]
 }
 
-// What two digits write; none if a byte is no digit.
+// What two digits write; `Malformed` if a byte is no digit.
 #[tactic(auto, unfolding(crate::specs::Record::are_digits))]
-fn number(tens: u8, ones: u8) -> Option<usize>
-    ensures { result ≡ cond (are_digits tens ones) (Some (from_digits tens ones)) None }
+fn number(tens: u8, ones: u8) -> Result<usize, Malformed>
+    ensures { result ≡ cond (are_digits tens ones) (Ok (from_digits tens ones)) (Err malformed) }
 {
     if !tens.is_ascii_digit() || !ones.is_ascii_digit() {
-        return None;
+        return Err(Malformed);
     }
-    Some(10 * usize::from(tens - b'0') + usize::from(ones - b'0'))
+    Ok(text::BASE * usize::from(tens - b'0') + usize::from(ones - b'0'))
 }
 
-// What the first 8 bytes say; none if they are not of the form of a record, or fewer.
-pub fn decode(bytes: &[u8]) -> Option<Record>
+// What the first 8 bytes say; `Malformed` if they are not of the form of a record, or fewer.
+pub fn decode(bytes: &[u8]) -> Result<Record, Malformed>
     ensures { result ≡ decoded (take record_bytes bytes.now) }
 {
     let [letter, b' ', a, b, b' ', c, d, b'\n', ..] = *bytes else {
-        return None;
+        return Err(Malformed);
     };
     let from = number(a, b)?;
     let to = number(c, d)?;
     match letter {
-        b'L' => Some(Record::Insert(from, to)),
-        b'T' => Some(Record::Delete(from, to)),
-        _ => None,
+        b'L' => Ok(Record::Insert(from, to)),
+        b'T' => Ok(Record::Delete(from, to)),
+        _ => Err(Malformed),
     }
 }

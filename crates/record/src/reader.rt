@@ -4,7 +4,7 @@ ghost use Rattle.record.specs.Record.{record_bytes};
 ghost use Rattle.std.specs.Iterator.{item_count};
 ghost use Rattle.record.specs.Reader.{records_left, GivesAt, Reads};
 
-use crate::{Record, decode};
+use crate::{Malformed, Record, decode};
 
 // A plan's bytes, and the record that the reader has got to, from 0 up.
 #[derive(Drop)]
@@ -22,23 +22,24 @@ impl<'a> PlanReader<'a> {
     }
 }
 
-// One record after the other, until no byte is left.
+// What one record after the other says, and `None` once no byte is left.
 impl<'a> Iterator for PlanReader<'a> {
-    type Item = Option<Record>;
+    type Item = Result<Record, Malformed>;
 
     ghost next_gives = { Reads };
 
     ghost remaining = { item_count records_left };
 
-    fn next(&mut self) -> Option<Option<Record>> {
+    fn next(&mut self) -> Option<Result<Record, Malformed>> {
         let reading = reading_at(self.plan, self.record)?;
         self.record += 1;
         Some(reading)
     }
 }
 
-// What the record k of a plan says, from 0 up; none if no byte is left there. The work of `next`.
-fn reading_at(plan: &[u8], k: usize) -> Option<Option<Record>>
+// The work of `next`: `None` where the plan has no byte left for the record k, from 0 up; else what that record says, which is `Malformed`
+// too where the end of the plan cuts it off.
+fn reading_at(plan: &[u8], k: usize) -> Option<Result<Record, Malformed>>
     ensures gives { GivesAt plan.now k result }
     ensures within { IfSome result (λ _. record_bytes * k < 2 ^ 64) }
 {

@@ -4,6 +4,9 @@
 ghost use Rattle.std.specs.Prelude.{◌≡◌, ◌+◌, ◌/◌, ◌%◌, ◌≤◌, ◌<◌, length};
 ghost use Rattle.text.specs.Text.{Put};
 
+// The base of the decimals.
+pub const BASE: usize = 10;
+
 // Internal: puts some bytes into the buffer from a place on, and answers the place after them. The place goes beside the buffer: a struct of
 // both would hold the `&mut`, and each contract would have to say that it keeps its reference.
 pub fn put(buffer: &mut [u8], at: usize, bytes: &[u8]) -> usize
@@ -21,12 +24,12 @@ pub fn tens(x: usize) -> u8
     requires { x < 100 }
     ensures { result ≡ 48 + x / 10 }
 {
-    b'0' + (x / 10) as u8
+    b'0' + (x / BASE) as u8
 }
 
 // Internal: the last decimal digit of a number.
 pub fn ones(x: usize) -> u8
     ensures { result ≡ 48 + x % 10 }
 {
-    b'0' + (x % 10) as u8
+    b'0' + (x % BASE) as u8
 }

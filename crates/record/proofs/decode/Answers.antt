@@ -1,5 +1,5 @@
 -- `record::decode` meets its contract: each way out is a law of CodecLaws. Assumes nothing.
-use Rattle.std.proofs.Common.{◌∙◌}
+use Rattle.std.proofs.Common.{rules}
 use Rattle.record.proofs.CodecLaws.{decode_short, decode_first, decode_second, decode_third, decode_from, decode_to, decode_insert, decode_delete, decode_other}
 use Rattle.record.proofs.decode.Goals as goal
 
@@ -16,10 +16,10 @@ pub returns-in_default-4 : goal.returns-in_default-4
 returns-in_default-4 c = search decode_first
 
 pub returns-in_err-from : goal.returns-in_err-from
-returns-in_err-from c = c.from_residual.ensures ∙ search (decode_from, c.in_err-from.ensures)
+returns-in_err-from c = search (rules, decode_from)
 
 pub returns-in_err-to : goal.returns-in_err-to
-returns-in_err-to c = c.from_residual-in_err-to.ensures ∙ search (decode_to, c.in_err-to.ensures)
+returns-in_err-to c = search (rules, decode_to)
 
 pub returns-in-76 : goal.returns-in-76
 returns-in-76 c = search (decode_insert, c.in_ok-from.ensures, c.in_ok-to.ensures)
