@@ -6,14 +6,14 @@
 ghost use Rattle.std.specs.Prelude.{◌≡◌, ℕ, ◌+◌, ◌^◌, ◌<◌, ◌≤◌, length};
 ghost use Rattle.answer.specs.Table.{Reflects};
 ghost use Rattle.sheet_theory.specs.Layout.{most_vertices, Shape};
-ghost use Rattle.sheet_theory.specs.Internal.{CountsHold, RowsBelow};
+ghost use Rattle.sheet_theory.specs.Internal.{CountsHold};
 ghost use Rattle.order.specs.Internal.{Ordered};
 ghost use Rattle.vertex_counts.specs.Internal.{SameWords, counted, ColumnsFilled};
 ghost use Rattle.sheet.specs.Internal.{with_counts};
 ghost use Rattle.count_blocks.specs.Internal.{columns, UnitWords, PlaceOf, OwnBy, count_by_mask, BlockCounted, PartHolds};
 ghost use Rattle.count_blocks.specs.Internal.{HasColumns, Led, BlockAt, BlockReady, BlockHolds};
 
-use sheet::{Sheet, View};
+use sheet::View;
 use word::{Combine, Minus, Plus};
 
 // Internal: the columns of a block, whose counts are worked out together: so many that their sums fit in registers.
@@ -89,12 +89,12 @@ impl<'a, 'b> Block<'a, 'b> {
     }
 
     // Whether the counts from every vertex to the columns satisfy the recurrence.
-    fn holds(self, order: &[usize; Sheet::VERTICES]) -> bool
-        requires { (RowsBelow self.sheet.n self.sheet.words.now) × (Ordered self.sheet.n self.sheet.words.now order.now) }
+    fn holds(self, order: &[usize]) -> bool
+        requires { Ordered self.sheet.n self.sheet.words.now order.now }
         ensures { Reflects result (BlockHolds self.entry.sheet.n self.entry.sheet.words.now self.entry.c) }
     {
         let mut leading = block_mask(self.c);
-        for &i in &order[..self.sheet.n] {
+        for &i in order {
             let mask = self.sheet.row(i) & leading;
             leading = lead(i, leading, mask);
             if !self.part_holds(i, mask) {
@@ -162,18 +162,12 @@ fn fill_part(n: usize, sheet: &mut [u64], i: usize, c: usize, mask: u64, unit: &
 }
 
 // The counts from every vertex to the columns from c on, written in the order given.
-fn fill_block(
-    n: usize,
-    sheet: &mut [u64],
-    c: usize,
-    order: &[usize; Sheet::VERTICES],
-    unit: &[u64; UNIT_WORDS],
-)
-    requires { (BlockReady n sheet.old c unit.now) × (RowsBelow n sheet.old) × (Ordered n sheet.old order.now) }
+fn fill_block(n: usize, sheet: &mut [u64], c: usize, order: &[usize], unit: &[u64; UNIT_WORDS])
+    requires { (BlockReady n sheet.old c unit.now) × (Ordered n sheet.old order.now) }
     ensures { ColumnsFilled n sheet.old c columns sheet.new }
 {
     let mut leading = block_mask(c);
-    for &i in &order[..n] {
+    for &i in order {
         let mask = sheet[i] & leading;
         leading = lead(i, leading, mask);
         fill_part(n, sheet, i, c, mask, unit);
@@ -181,8 +175,8 @@ fn fill_block(
 }
 
 // Internal: the counts, in the order given, block by block.
-pub fn fill_blocks(n: usize, sheet: &mut [u64], order: &[usize; Sheet::VERTICES])
-    requires { (Shape n sheet.old) × (RowsBelow n sheet.old) × (Ordered n sheet.old order.now) × (columns ≤ n) }
+pub fn fill_blocks(n: usize, sheet: &mut [u64], order: &[usize])
+    requires { (Shape n sheet.old) × (Ordered n sheet.old order.now) × (columns ≤ n) }
     ensures { sheet.new ≡ counted n sheet.old }
 {
     let unit = unit_words();
@@ -192,8 +186,8 @@ pub fn fill_blocks(n: usize, sheet: &mut [u64], order: &[usize; Sheet::VERTICES]
 }
 
 // Internal: whether all counts satisfy the recurrence, block by block.
-pub fn blocks_hold(sheet: View, order: &[usize; Sheet::VERTICES]) -> bool
-    requires { (RowsBelow sheet.n sheet.words.now) × (Ordered sheet.n sheet.words.now order.now) × (columns ≤ sheet.n) }
+pub fn blocks_hold(sheet: View, order: &[usize]) -> bool
+    requires { (Ordered sheet.n sheet.words.now order.now) × (columns ≤ sheet.n) }
     ensures { Reflects result ((i : ℕ) → i < sheet.entry.n → CountsHold sheet.entry.n sheet.entry.words.now i) }
 {
     let unit = unit_words();

@@ -8,17 +8,16 @@ ghost use Rattle.answer.specs.Table.{First, Reflects};
 ghost use Rattle.sheet_theory.specs.Layout.{Shape};
 ghost use Rattle.sheet_theory.specs.Lent.{lent};
 ghost use Rattle.sheet_theory.specs.Valid.{Valid, not_valid};
-ghost use Rattle.sheet_theory.specs.Internal.{RowsBelow};
 ghost use Rattle.recount_theory.specs.Calls.{row_conditions, RecountBy, Recount, Validate};
 ghost use Rattle.vertex_counts.specs.Internal.{counted};
 ghost use Rattle.order.specs.Internal.{Ordered};
 
-use sheet::{Answer, Refusal, Sheet, View};
+use sheet::{Answer, Refusal, View};
 
 // The counts, in the order given: each from those of its successors, which are earlier. What writes a sheet takes n and the words, here and
 // below: the reason stands at `View`.
-fn fill_counts(n: usize, sheet: &mut [u64], order: &[usize; Sheet::VERTICES])
-    requires { (Shape n sheet.old) × (RowsBelow n sheet.old) × (Ordered n sheet.old order.now) }
+fn fill_counts(n: usize, sheet: &mut [u64], order: &[usize])
+    requires { (Shape n sheet.old) × (Ordered n sheet.old order.now) }
     ensures { sheet.new ≡ counted n sheet.old }
 {
     if n < count_blocks::COLUMNS {

@@ -94,6 +94,7 @@ module _ (n : ℕ) (s l : List ℕ) (h : Ordered n s l) (shape : Shape n s) (c w
 -- the rows stay, and with them the order and what the edges lead to
 pub same_ordered : (n : ℕ) (s t : List ℕ) → length t ≡ length s → ((i : ℕ) → i < n → row_at t i ≡ row_at s i) → (l : List ℕ) → Ordered n s l → Ordered n t l
 same_ordered n s t long rows l h = record {
+  below = λ i hi. rw (rows i hi) (h.below i hi);
   long = h.long;
   order = record {
     vertex = h.order.vertex;

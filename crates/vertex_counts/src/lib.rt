@@ -69,11 +69,11 @@ fn fill_counts_from(n: usize, sheet: &mut [u64], v: usize)
 }
 
 // Internal: the counts, in the order given, vertex by vertex.
-pub fn fill_all_counts(n: usize, sheet: &mut [u64], order: &[usize; Sheet::VERTICES])
-    requires { (Shape n sheet.old) × (RowsBelow n sheet.old) × (Ordered n sheet.old order.now) }
+pub fn fill_all_counts(n: usize, sheet: &mut [u64], order: &[usize])
+    requires { (Shape n sheet.old) × (Ordered n sheet.old order.now) }
     ensures { sheet.new ≡ counted n sheet.old }
 {
-    for &v in &order[..n] {
+    for &v in order {
         fill_counts_from(n, sheet, v);
     }
 }

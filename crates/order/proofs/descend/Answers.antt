@@ -17,10 +17,10 @@ pub loop-ahead-preserved : goal.loop-ahead-preserved
 loop-ahead-preserved c =
     let i = c.loop-ahead.invariant in
     let set = c.highest_bit-v.ensures.set in
-    rw (c.push.ensures, c.row.ensures)
+    rw (c.push.ensures.items, c.row.ensures)
     (stack_more _ _ _ c.requires.1 _ _ i.0 i.1 _ set (omega (arith, i.0.short)), ahead_more _ _ _ c.requires.1 _ _ i.0 i.1 _ set)
 
 pub returns : goal.returns
 returns c =
     let i = c.loop-ahead.invariant in
-    descended _ _ _ c.requires.1 _ _ i.0 i.1 c.loop-ahead-test.false _ _ c.pop.ensures
+    descended _ _ _ c.requires.1 _ _ c.requires.0 i.0 i.1 c.loop-ahead-test.false _ _ c.pop.ensures.value c.pop.ensures.items

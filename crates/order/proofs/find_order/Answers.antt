@@ -6,7 +6,7 @@ use Rattle.order.proofs.find_order.Goals as goal
 
 pub loop-left-init : goal.loop-left-init
 loop-left-init c =
-    rw (c.none-order.ensures, c.none-stack.ensures) (peeled_start _ _ c.args.sheet.shape.high _ c.low_bits-left.ensures, stack_none _ _ _)
+    rw (c.new-order.ensures, c.new-stack.ensures) (peeled_start _ _ c.args.sheet.shape.high _ c.low_bits-left.ensures, stack_none _ _ _)
 
 pub clear_bit-left-requires : goal.clear_bit-left-requires
 clear_bit-left-requires c =
@@ -26,9 +26,9 @@ pub loop-left-preserved : goal.loop-left-preserved
 loop-left-preserved c =
     let high = c.args.sheet.shape.high in
     let peeled = c.loop-left.invariant.0 in
-    rw (c.clear_bit-left.ensures, c.push.ensures)
+    rw (c.clear_bit-left.ensures, c.push.ensures.items)
     (taken_peeled _ _ high _ _ peeled _ _ c.in_ok-last.ensures, taken_stack _ _ high _ _ peeled _ _ c.in_ok-last.ensures)
 
 pub returns : goal.returns
 returns c =
-    order_complete _ _ c.args.sheet.shape.high _ _ _ c.loop-left.invariant.0 c.loop-left-test.false c.into_places.ensures.long c.into_places.ensures.first
+    order_complete _ _ c.args.sheet.shape.high _ _ c.requires c.loop-left.invariant.0 c.loop-left-test.false

@@ -1,5 +1,4 @@
 -- `recount::is_valid` meets its contract: where there is an order there is no cycle. Assumes nothing.
-use Rattle.std.proofs.Common.{arith}
 use Rattle.answer.proofs.TableLaws.{reflects_false}
 use Rattle.sheet.proofs.StrayLaws.{rows_below}
 use Rattle.recount.proofs.ValidateLaws.{valid_holds}
@@ -15,9 +14,6 @@ pub returns-then-sheet-lt-COLUMNS : goal.returns-then-sheet-lt-COLUMNS
 returns-then-sheet-lt-COLUMNS c =
     let order = rw c.in-Some.is at c.find_order-found.ensures in
     valid_holds _ _ c.args.sheet.shape ((reflects_false c.has_stray_row.ensures).0 c.if-has_stray_row.false) _ order _ c.all_counts_hold.ensures
-
-pub blocks_hold-requires : goal.blocks_hold-requires
-blocks_hold-requires c = (search rows_below, rw c.in-Some.is at c.find_order-found.ensures, omega arith)
 
 pub returns : goal.returns
 returns c =

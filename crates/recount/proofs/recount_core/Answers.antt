@@ -7,9 +7,6 @@ use Rattle.recount.proofs.recount_core.Goals as goal
 pub find_order-found-requires : goal.find_order-found-requires
 find_order-found-requires c = search rows_below
 
-pub fill_counts-requires : goal.fill_counts-requires
-fill_counts-requires c = (c.requires, search rows_below, rw c.in-Some.is at c.find_order-found.ensures)
-
 pub returns : goal.returns
 returns c =
     let order = rw c.in-Some.is at c.find_order-found.ensures in
