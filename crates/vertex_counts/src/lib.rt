@@ -31,8 +31,8 @@ pub fn same_words(words: &[u64], t: &[u64]) -> bool
     ensures { Reflects result (SameWords (length words.now) words.now t.now) }
 {
     let mut difference = 0;
-    for (j, x) in words.iter().enumerate() {
-        difference |= *x ^ t[j];
+    for (x, y) in words.iter().zip(t) {
+        difference |= *x ^ *y;
     }
     difference == 0
 }
