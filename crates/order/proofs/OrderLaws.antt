@@ -13,7 +13,7 @@ use Rattle.graph.proofs.Peeling.{order_acyclic}
 use Rattle.sheet_theory.specs.Layout.{row_at, edge_at}
 use Rattle.sheet_theory.specs.Internal.{RowsBelow}
 use Rattle.order.specs.Internal.{vertex_at, Peeled, NoneAhead, Stack, Descended, Ordered}
-use Rattle.order.proofs.StackLaws.{vertex_new, vertex_old, stack_less}
+use Rattle.order.proofs.StackLaws.{vertex_new, vertex_old, stack_none, stack_less}
 
 module _ (n : ℕ) (s : List ℕ) (high : n ≤ 64) where
   -- ---- a vertex is taken away
@@ -70,20 +70,21 @@ module _ (n : ℕ) (s : List ℕ) (high : n ≤ 64) where
     pub last_room : length l < n
     last_room = omega (arith, h.total, bit_count_pos left v last_left (omega (arith, last_vertex)))
 
-    pub taken_peeled : Peeled n s (without_bit left v) (l ++ v ∷ [])
-    taken_peeled = peeled_more left l h v last_vertex last_left down.1
-
-    pub taken_stack : Stack n s (without_bit left v) t
-    taken_stack = stack_less n s left h.below t v down.0 down.1
-
     pub taken_less : without_bit left v < left
     taken_less = clear_lt left v last_left
+
+    module _ (r : ℕ) (er : r ≡ without_bit left v) where
+      pub taken_peeled : (m : List ℕ) → m ≡ l ++ v ∷ [] → Peeled n s r m
+      taken_peeled m em = rw (er, em) (peeled_more left l h v last_vertex last_left down.1)
+
+      pub taken_stack : Stack n s r t
+      taken_stack = rw er (stack_less n s left h.below t v down.0 down.1)
 
   -- ---- vertices are taken away as long as one is left
 
   -- at the start all are left
-  pub peeled_start : (left : ℕ) → left ≡ 2 ^ n - 1 → Peeled n s left []
-  peeled_start left el = record {
+  pub peeled_start : (left : ℕ) (l : List ℕ) → left ≡ 2 ^ n - 1 → l ≡ [] → Peeled n s left l
+  peeled_start left l el none = rw none record {
     below = rw el (omega (arith, pow_pos n));
     total = rw el (omega (arith, bit_count_low n high));
     order = record { vertex = λ m q. absurd (omega arith); earlier = λ m q. absurd (omega arith) };
@@ -103,3 +104,6 @@ module _ (n : ℕ) (s : List ℕ) (high : n ≤ 64) where
 
 pub ordered_acyclic : (n : ℕ) (s l : List ℕ) → Ordered n s l → Acyclic n (edge_at s)
 ordered_acyclic n s l o = order_acyclic n (edge_at s) n (vertex_at l) o.order o.all
+
+-- what is known as vertices are taken away
+pub ruleset order_laws = (stack_none, peeled_start, last_vertex, last_room, taken_peeled, taken_stack, taken_less, order_complete)

@@ -15,8 +15,8 @@ use Rattle.graph.proofs.Peeling.{walk_cycle}
 use Rattle.sheet_theory.specs.Layout.{row_at, edge_at}
 use Rattle.order.specs.Internal.{vertex_at, NoneAhead, Stack, Ahead, Descended}
 
-pub stack_none : (n : ℕ) (s : List ℕ) (left : ℕ) → Stack n s left []
-stack_none n s left = record { short = omega arith; held = λ k q. absurd (omega arith); edges = λ k q. absurd (omega arith) }
+pub stack_none : (n : ℕ) (s : List ℕ) (left : ℕ) (l : List ℕ) → l ≡ [] → Stack n s left l
+stack_none n s left l e = rw e record { short = omega arith; held = λ k q. absurd (omega arith); edges = λ k q. absurd (omega arith) }
 
 -- ---- a vertex comes after a list of them
 
@@ -139,3 +139,6 @@ module _ (n : ℕ) (s : List ℕ) (left : ℕ) (below : left < 2 ^ n) where
           | inl o ↦ absurd (omega (arith, rw (vertex_old l v j q, z) at (t.edges j (omega (arith, length_push l v)))))
           | inr o ↦ o
         ]
+
+-- what the search knows of its stack
+pub ruleset stack_laws = (ahead_first, none_last, ahead_later, ahead_vertex, stack_more, ahead_more, stack_cycle, descended)

@@ -13,6 +13,7 @@ use sheet::{Sheet, View};
 
 // Where the search can go: along an edge from the last vertex of the stack to a vertex that is left; from an empty stack, to any that is
 // left.
+#[tactic(auto, using(crate::proofs::StackLaws::stack_laws))]
 fn look_ahead(sheet: View, left: u64, stack: &[usize]) -> u64
     requires { (left < 2 ^ sheet.n) × (Stack sheet.n sheet.words.now left stack.now) }
     ensures { Ahead sheet.entry.words.now left stack.now result }
@@ -25,6 +26,7 @@ fn look_ahead(sheet: View, left: u64, stack: &[usize]) -> u64
 
 // Pushes vertices on the stack until no edge leads from the last one to a vertex that is left, and takes that one off the stack. None, if
 // the stack would hold more than n vertices, so that one of them would stand in it twice.
+#[tactic(auto, using(crate::proofs::StackLaws::stack_laws))]
 fn descend(
     sheet: View,
     left: u64,
@@ -46,6 +48,7 @@ fn descend(
 }
 
 // Internal: every vertex, each after those to which its edges lead. None, if there is a cycle.
+#[tactic(auto, using(crate::proofs::OrderLaws::order_laws))]
 pub fn find_order(sheet: View) -> Option<ArrayVec<usize, { Sheet::VERTICES }>>
     requires { RowsBelow sheet.n sheet.words.now }
     ensures { OrderFound sheet.entry.n sheet.entry.words.now result }
