@@ -38,6 +38,7 @@ pub fn same_words(words: &[u64], t: &[u64]) -> bool
 }
 
 // Whether the counts from i satisfy the recurrence.
+#[tactic(auto, using(crate::proofs::CountsLaws::holds_same))]
 fn counts_hold(sheet: View, i: usize) -> bool
     requires { (i < sheet.n) × (row_at sheet.words.now i < 2 ^ sheet.n) }
     ensures { Reflects result (CountsHold sheet.entry.n sheet.entry.words.now i) }
@@ -69,6 +70,7 @@ fn fill_counts_from(n: usize, sheet: &mut [u64], v: usize)
 }
 
 // Internal: the counts, in the order given, vertex by vertex.
+#[tactic(auto, using(crate::proofs::FilledLaws::filled_more))]
 pub fn fill_all_counts(n: usize, sheet: &mut [u64], order: &[usize])
     requires { (Shape n sheet.old) × (Ordered n sheet.old order.now) }
     ensures { sheet.new ≡ counted n sheet.old }

@@ -1,10 +1,7 @@
--- `vertex_counts::fill_all_counts` meets its contract: a turn works out the counts from one vertex more. Assumes nothing.
+-- `vertex_counts::fill_all_counts` meets its contract: once the counts from all vertices are worked out, so are all counts. Assumes nothing.
 use Rattle.std.proofs.Common.{arith}
-use Rattle.vertex_counts.proofs.FilledLaws.{filled_more, filled_all, columns_all}
+use Rattle.vertex_counts.proofs.FilledLaws.{filled_all, columns_all}
 use Rattle.vertex_counts.proofs.fill_all_counts.Goals as goal
-
-pub loop-v-preserved : goal.loop-v-preserved
-loop-v-preserved c = filled_more _ _ _ c.requires.1 c.requires.0 0 _ (omega arith) _ _ _ (omega (arith, c.requires.1.long)) c.loop-v.invariant c.fill_counts_from.ensures
 
 pub returns : goal.returns
 returns c =
