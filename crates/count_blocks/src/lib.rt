@@ -24,6 +24,7 @@ const UNIT_WORDS: usize = 2 * COLUMNS;
 
 // An array whose middle word is 1 and whose other words are 0. The path from i to itself is added to the sums of the block from c on as the
 // window of COLUMNS words that begins at COLUMNS less the place of i. Writing to that place would spill the sums to memory.
+#[tactic(auto, using(crate::proofs::BlockLaws::unit_made))]
 fn unit_words() -> [u64; UNIT_WORDS]
     ensures { UnitWords result }
 {
@@ -89,6 +90,7 @@ impl<'a, 'b> Block<'a, 'b> {
     }
 
     // Whether the counts from every vertex to the columns satisfy the recurrence.
+    #[tactic(auto, using(crate::proofs::BlockLaws::compared_laws))]
     fn holds(self, order: &[usize]) -> bool
         requires { Ordered self.sheet.n self.sheet.words.now order.now }
         ensures { Reflects result (BlockHolds self.entry.sheet.n self.entry.sheet.words.now self.entry.c) }
@@ -117,6 +119,7 @@ fn block_of(words: &[u64]) -> [u64; COLUMNS]
 }
 
 // The columns from c on, as a mask.
+#[tactic(auto, using(crate::proofs::BlockLaws::block_columns))]
 fn block_mask(c: usize) -> u64
     requires { c + columns ≤ most_vertices }
     ensures { HasColumns c result }

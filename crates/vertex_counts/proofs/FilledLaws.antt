@@ -82,11 +82,11 @@ module _ (n : ℕ) (s l : List ℕ) (h : Ordered n s l) (shape : Shape n s) (c w
 
   -- ---- all vertices
 
-  pub filled_all : (t : List ℕ) (k : ℕ) → Filled n s (vertex_at l) c w k t → k ≡ n → ColumnsFilled n s c w t
+  pub filled_all : (t : List ℕ) (k : ℕ) → Filled n s (vertex_at l) c w k t → length l ≤ k → ColumnsFilled n s c w t
   filled_all t k f e = record {
     long = f.long;
     rows = f.rows;
-    filled = λ i j hi hj lo q. let o = h.all i hi in rw (← o.2) (f.done o.0 (omega (arith, o.1)) j lo q);
+    filled = λ i j hi hj lo q. let o = h.all i hi in rw (← o.2) (f.done o.0 (omega (arith, o.1, h.long)) j lo q);
     kept = f.kept;
     rest = f.rest;
   }

@@ -5,5 +5,5 @@ use Rattle.vertex_counts.proofs.fill_all_counts.Goals as goal
 
 pub returns : goal.returns
 returns c =
-    let all = filled_all _ _ _ c.requires.1 c.requires.0 0 _ (omega arith) _ _ c.loop-v.invariant (omega (arith, c.requires.1.long)) in
+    let all = filled_all _ _ _ c.requires.1 c.requires.0 0 _ (omega arith) _ _ c.loop-v.invariant c.loop-v-test.false in
     columns_all _ _ _ _ all (omega arith)
