@@ -28,6 +28,7 @@ fn fill_counts(n: usize, sheet: &mut [u64], order: &[usize])
 }
 
 // Internal: the counts of a sheet of the right shape, worked out afresh from the rows. 4 and 8 are looked for before a word is written.
+#[tactic(auto, using(crate::proofs::RecountLaws::recount_laws))]
 pub fn recount_core(n: usize, sheet: &mut [u64]) -> Result<u64, Refusal>
     requires { Shape n sheet.old }
     ensures { RecountBy (row_conditions n (lent sheet.old)) n (lent sheet.old) (answer_of result) (lent sheet.new) }
@@ -64,6 +65,7 @@ pub fn recount(n: usize, sheet: &mut [u64]) -> Answer
 }
 
 // Whether a sheet is valid. Where there is no cycle, the counts are the numbers of paths exactly if they satisfy the recurrence.
+#[tactic(auto, using(crate::proofs::ValidateLaws::valid_laws))]
 fn is_valid(sheet: View) -> bool
     ensures { Reflects result (Valid sheet.entry.n (lent sheet.entry.words.now)) }
 {
@@ -81,6 +83,7 @@ fn is_valid(sheet: View) -> bool
 }
 
 // The work of `validate`.
+#[tactic(auto, using(crate::proofs::ValidateLaws::validate_refused))]
 fn validate_lent(n: usize, sheet: &[u64]) -> Result<u64, Refusal>
     ensures { Validate n (lent sheet.now) (answer_of result) }
 {
