@@ -83,7 +83,6 @@ fn is_valid(sheet: View) -> bool
 }
 
 // The work of `validate`.
-#[tactic(auto, using(crate::proofs::ValidateLaws::validate_refused))]
 fn validate_lent(n: usize, sheet: &[u64]) -> Result<u64, Refusal>
     ensures { Validate n (lent sheet.now) (answer_of result) }
 {
