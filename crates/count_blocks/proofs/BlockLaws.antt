@@ -164,10 +164,12 @@ unled_more n t u v c k leading mask r was led here other = record {
 }
 
 -- a successor that is not among the leading may be left out of the sum
-pub led_sum : (n : ℕ) (t l : List ℕ) (c k leading : ℕ) → Ordered n t l → k < n → Unled n t (vertex_at l) c k leading
-    → (j : ℕ) → c ≤ j → j < c + 16 → count_by_mask n t (vertex_at l k) j (bit_and (row_at t (vertex_at l k)) leading) ≡ successors_sum n t (vertex_at l k) j
+pub led_sum : (n : ℕ) (t l : List ℕ) (c k leading mask : ℕ) → mask ≡ bit_and (row_at t (vertex_at l k)) leading → Ordered n t l → k < n
+    → Unled n t (vertex_at l) c k leading
+    → (j : ℕ) → c ≤ j → j < c + 16 → count_by_mask n t (vertex_at l k) j mask ≡ successors_sum n t (vertex_at l k) j
 unfolding successors_sum
-led_sum n t l c k leading h hk un j low high = ap (λ (x : ℕ). (delta i j + x) % 2 ^ 64) (sum_cong n _ _ term)
+led_sum n t l c k leading mask em h hk un j low high =
+    ap (λ (x : ℕ). count_by_mask n t i j x) em ∙ ap (λ (x : ℕ). (delta i j + x) % 2 ^ 64) (sum_cong n _ _ term)
   where
     i : ℕ
     i = vertex_at l k
@@ -199,12 +201,11 @@ module _ (n : ℕ) (s l u : List ℕ) (h : Ordered n s l) (c : ℕ) (ready : Blo
   pub filling_row : k < length l → vertex_at l k < length t
   filling_row hk = omega (arith, h.order.vertex k (omega (arith, h.long)), f.filled.long, rows_within ready.shape)
 
-  pub filling_more : (v : List ℕ) (r : ℕ) → k < length l
-      → v ≡ with_counts n t (vertex_at l k) c 16 (λ (j : ℕ). count_by_mask n t (vertex_at l k) j (bit_and (row_at t (vertex_at l k)) leading))
-      → Led (vertex_at l k) leading (bit_and (row_at t (vertex_at l k)) leading) r → Filling n s l c (k + 1) r v
-  filling_more v r q p led = let hk : k < n = omega (arith, h.long) in record {
+  pub filling_more : (v : List ℕ) (mask r : ℕ) → k < length l → v ≡ with_counts n t (vertex_at l k) c 16 (λ (j : ℕ). count_by_mask n t (vertex_at l k) j mask)
+      → mask ≡ bit_and (row_at t (vertex_at l k)) leading → Led (vertex_at l k) leading mask r → Filling n s l c (k + 1) r v
+  filling_more v mask r q p em led = let hk : k < n = omega (arith, h.long) in record {
     filled = filled_more n s l h ready.shape c 16 ready.within t v k hk f.filled
-        (counts_as _ _ _ _ _ _ _ p _ (led_sum n t l c k leading (same_ordered n s t f.filled.long f.filled.rows l h) hk f.led));
+        (counts_as _ _ _ _ _ _ _ p _ (led_sum n t l c k leading mask em (same_ordered n s t f.filled.long f.filled.rows l h) hk f.led));
     led = unled_more n t v (vertex_at l) c k leading _ r f.led led
         (counts_in _ _ _ _ _ _ _ p (omega (arith, from_within n (vertex_at l k) (h.order.vertex k hk), f.filled.long, ready.shape.long, ready.within)))
         (λ a j d low high. counts_stay _ _ _ _ _ _ _ p ready.within a j (omega (arith, ready.within)) (λ e. absurd (d e)));
@@ -225,16 +226,15 @@ pub record Compared (n : ℕ) (s l : List ℕ) (c k leading : ℕ) : Type 0 wher
   pub led : Unled n s (vertex_at l) c k leading
 
 module _ (n : ℕ) (s l : List ℕ) (h : Ordered n s l) (c k leading : ℕ) (was : Compared n s l c k leading) where
-  module _ (row : ℕ) (is : row ≡ row_at s (vertex_at l k)) (t : Bool) (part : Reflects t (PartHolds n s (vertex_at l k) c (bit_and row leading)))
-      (hk : k < n) where
+  module _ (row mask : ℕ) (is : row ≡ row_at s (vertex_at l k)) (em : mask ≡ bit_and row leading) (t : Bool)
+      (part : Reflects t (PartHolds n s (vertex_at l k) c mask)) (hk : k < n) where
     vertex_holds : Reflects t (VertexHolds n s l c k)
-    vertex_holds = reflects_iff (λ f j low high. f j low high ∙ whole j low high) (λ f j low high. f j low high ∙ sym (whole j low high)) (rw is at part)
+    vertex_holds = reflects_iff (λ f j low high. f j low high ∙ whole j low high) (λ f j low high. f j low high ∙ sym (whole j low high)) part
       where
-        whole : (j : ℕ) → c ≤ j → j < c + 16
-            → count_by_mask n s (vertex_at l k) j (bit_and (row_at s (vertex_at l k)) leading) ≡ successors_sum n s (vertex_at l k) j
-        whole = led_sum n s l c k leading h hk was.led
+        whole : (j : ℕ) → c ≤ j → j < c + 16 → count_by_mask n s (vertex_at l k) j mask ≡ successors_sum n s (vertex_at l k) j
+        whole = led_sum n s l c k leading mask (em ∙ ap (λ (x : ℕ). bit_and x leading) is) h hk was.led
 
-    pub compared_more : (r : ℕ) → t ≡ true → Led (vertex_at l k) leading (bit_and row leading) r → Compared n s l c (k + 1) r
+    pub compared_more : (r : ℕ) → t ≡ true → Led (vertex_at l k) leading mask r → Compared n s l c (k + 1) r
     compared_more r e led = record {
       held = below_more (VertexHolds n s l c) k was.held (vertex_holds.holds e);
       led = unled_more n s s (vertex_at l) c k leading _ r was.led led (part.holds e) (λ a j d low high. refl);

@@ -1,9 +1,9 @@
-// The counts by blocks of 16 columns, written or tested, on sheets of 16 vertices or more: the counts from a vertex to a block's columns are
-// added up, or taken off the stored ones, at once, from those successors alone that lead to one of the columns. The columns from c on
+// The counts by blocks of 16 columns, written or tested, on sheets of 16 vertices or more: the counts from a vertex to a block's columns
+// are added up, or taken off the stored ones, at once, from those successors alone that lead to one of the columns. The columns from c on
 // are the 16 of the block that begins there.
 #![tactic(auto)]
 
-ghost use Rattle.std.specs.Prelude.{◌≡◌, ℕ, ◌+◌, ◌^◌, ◌<◌, ◌≤◌, length};
+ghost use Rattle.std.specs.Prelude.{◌≡◌, ℕ, ◌+◌, ◌^◌, ◌<◌, ◌≤◌, length, bit_and};
 ghost use Rattle.answer.specs.Table.{Reflects};
 ghost use Rattle.sheet_theory.specs.Layout.{most_vertices, Shape};
 ghost use Rattle.sheet_theory.specs.Internal.{CountsHold};
@@ -97,8 +97,7 @@ impl<'a, 'b> Block<'a, 'b> {
     {
         let mut leading = block_mask(self.c);
         for &i in order {
-            let mask = self.sheet.row(i) & leading;
-            leading = lead(i, leading, mask);
+            let mask = leading_successors(i, self.sheet.row(i), &mut leading);
             if !self.part_holds(i, mask) {
                 return false;
             }
@@ -127,17 +126,19 @@ fn block_mask(c: usize) -> u64
     word::low_bits(c + COLUMNS) & !word::low_bits(c)
 }
 
-// The vertices found to lead to one of a block's columns, and i too if an edge leads from it to one of them, a vertex of the mask.
+// The vertices of the row of i that are among the leading, those found to lead to one of a block's columns. If there is one, i joins them.
 #[tactic(auto, using(crate::proofs::BlockLaws::led_set, crate::proofs::BlockLaws::led_same))]
-fn lead(i: usize, leading: u64, mask: u64) -> u64
+fn leading_successors(i: usize, row: u64, leading: &mut u64) -> u64
     requires { i < most_vertices }
-    ensures { Led i leading mask result }
+    ensures mask { result ≡ bit_and row leading.old }
+    ensures within { result ≤ row }
+    ensures led { Led i leading.old result leading.new }
 {
+    let mask = row & *leading;
     if mask != 0 {
-        word::set_bit(leading, i)
-    } else {
-        leading
+        *leading = word::set_bit(*leading, i);
     }
+    mask
 }
 
 // Where the block of columns begins that holds column c and those after it: at c, or earlier where fewer than COLUMNS are left.
@@ -164,15 +165,16 @@ fn fill_part(n: usize, sheet: &mut [u64], i: usize, c: usize, mask: u64, unit: &
     sheet::words::copy_words(COLUMNS, &t, sheet, sheet::layout::counts_start(n, i) + c);
 }
 
-// The counts from every vertex to the columns from c on, written in the order given.
+// The counts from every vertex to the columns from c on, written in the order given. A struct can't hold the order with the `&mut` either:
+// it is an order of the sheet as it was lent. `Block::holds` and `blocks_hold` walk as this and `fill_blocks` do: a walk for both would hold
+// the sheet that these write, and masks that are kept for a second loop cost a ninth of the time on sparse sheets, as tried in C.
 fn fill_block(n: usize, sheet: &mut [u64], c: usize, order: &[usize], unit: &[u64; UNIT_WORDS])
     requires { (BlockReady n sheet.old c unit.now) × (Ordered n sheet.old order.now) }
     ensures { ColumnsFilled n sheet.old c columns sheet.new }
 {
     let mut leading = block_mask(c);
     for &i in order {
-        let mask = sheet[i] & leading;
-        leading = lead(i, leading, mask);
+        let mask = leading_successors(i, sheet[i], &mut leading);
         fill_part(n, sheet, i, c, mask, unit);
     }
 }

@@ -69,7 +69,8 @@ fn fill_counts_from(n: usize, sheet: &mut [u64], v: usize)
     sheet::words::copy_words(n, &t, sheet, sheet::layout::counts_start(n, v));
 }
 
-// Internal: the counts, in the order given, vertex by vertex.
+// Internal: the counts, in the order given, vertex by vertex. A struct can't hold the order with the `&mut` either: it is an order of the
+// sheet as it was lent. `all_counts_hold` has a loop of its own, since it needs no order: one for both would be lent a `&mut` for a test.
 #[tactic(auto, using(crate::proofs::FilledLaws::filled_more))]
 pub fn fill_all_counts(n: usize, sheet: &mut [u64], order: &[usize])
     requires { (Shape n sheet.old) × (Ordered n sheet.old order.now) }
