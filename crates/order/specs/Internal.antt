@@ -47,7 +47,7 @@ Descended n s left None l = Cycle n (edge_at s)
 
 -- ---- what is found
 
--- no edge of s leads out of its n vertices, and l holds every vertex, each after those to which its edges lead
+-- no row of s has a bit at n or above, and l holds every vertex, each after those to which its edges lead
 pub record Ordered (n : ℕ) (s l : List ℕ) : Type 0 where
   pub below : RowsBelow n s
   pub long : length l ≡ n
