@@ -1,6 +1,6 @@
 -- The laws of counts by blocks of columns: the block that the recurrence gives, what may be left out of its sums, and blocks written and
 -- compared. Assumes nothing.
-use Rattle.std.proofs.Common.{◌≡◌, ℕ, ◌+◌, ◌-◌, ◌*◌, ◌%◌, ◌^◌, ◌<◌, ◌≤◌, Bool, ◌⊎◌, List, length, get_or, set, replicate, sym, refl, ap, ◌∙◌, subst, inl, inr, mod-eq_of_lt, mul-zero, zero-mul, arith, length-set, get_or-set_other, get_or-set_same, pow_pos}
+use Rattle.std.proofs.Common.{◌≡◌, ℕ, ◌+◌, ◌-◌, ◌*◌, ◌%◌, ◌^◌, ◌<◌, ◌≤◌, Bool, true, false, below_more, ◌⊎◌, List, length, get_or, set, replicate, sym, refl, ap, ◌∙◌, subst, inl, inr, mod-eq_of_lt, mul-zero, zero-mul, arith, length-set, get_or-set_other, get_or-set_same, pow_pos}
 use native.Mathlib.Nat.{pow-le-pow_right}
 use native.Mathlib.Decide.{ℕ_discrete}
 use lib.Bits.{bit_and}
@@ -17,17 +17,17 @@ use Rattle.word.proofs.WrapLaws.{minus_lt, minus_add, minus_congruent}
 use Rattle.word.specs.Combine.{Wraps}
 use Rattle.word.proofs.CountLaws.{sum_no_bits}
 use Rattle.answer.specs.Table.{Reflects}
-use Rattle.sheet_theory.specs.Layout.{Shape, row_at, count_at, edge_at}
+use Rattle.sheet_theory.specs.Layout.{row_at, count_at, edge_at}
 use Rattle.sheet.specs.Fill.{over}
 use Rattle.sheet.specs.Internal.{CountsFrom, combined, SumsBy, with_counts}
 use Rattle.sheet_theory.specs.Internal.{successors_sum}
-use Rattle.answer.proofs.TableLaws.{reflects_iff}
+use Rattle.answer.proofs.TableLaws.{reflects_iff, reflects_false, reflects_true, reflects_none}
 use Rattle.sheet.proofs.WordsLaws.{combined_long, combined_at, counts_written, counts_as, counts_in, counts_stay}
-use Rattle.sheet_theory.proofs.LayoutLaws.{from_within}
-use Rattle.vertex_counts.specs.Internal.{SameWords}
+use Rattle.sheet_theory.proofs.LayoutLaws.{from_within, rows_within}
+use Rattle.vertex_counts.specs.Internal.{SameWords, ColumnsFilled}
 use Rattle.order.specs.Internal.{vertex_at, Ordered}
-use Rattle.count_blocks.specs.Internal.{UnitWords, OwnBy, count_by_mask, BlockCounted, PartHolds, BlockHolds, HasColumns, Led}
-use Rattle.vertex_counts.proofs.FilledLaws.{Filled, filled_more, same_ordered}
+use Rattle.count_blocks.specs.Internal.{UnitWords, OwnBy, count_by_mask, BlockCounted, PartHolds, BlockReady, BlockHolds, HasColumns, Led}
+use Rattle.vertex_counts.proofs.FilledLaws.{Filled, filled_more, filled_all, same_ordered}
 
 -- ---- the path from a vertex to itself
 
@@ -164,10 +164,12 @@ unled_more n t u v c k leading mask r was led here other = record {
 }
 
 -- a successor that is not among the leading may be left out of the sum
-pub led_sum : (n : ℕ) (t l : List ℕ) (c k leading : ℕ) → Ordered n t l → k < n → Unled n t (vertex_at l) c k leading
-    → (j : ℕ) → c ≤ j → j < c + 16 → count_by_mask n t (vertex_at l k) j (bit_and (row_at t (vertex_at l k)) leading) ≡ successors_sum n t (vertex_at l k) j
+pub led_sum : (n : ℕ) (t l : List ℕ) (c k leading mask : ℕ) → mask ≡ bit_and (row_at t (vertex_at l k)) leading → Ordered n t l → k < n
+    → Unled n t (vertex_at l) c k leading
+    → (j : ℕ) → c ≤ j → j < c + 16 → count_by_mask n t (vertex_at l k) j mask ≡ successors_sum n t (vertex_at l k) j
 unfolding successors_sum
-led_sum n t l c k leading h hk un j low high = ap (λ (x : ℕ). (delta i j + x) % 2 ^ 64) (sum_cong n _ _ term)
+led_sum n t l c k leading mask em h hk un j low high =
+    ap (λ (x : ℕ). count_by_mask n t i j x) em ∙ ap (λ (x : ℕ). (delta i j + x) % 2 ^ 64) (sum_cong n _ _ term)
   where
     i : ℕ
     i = vertex_at l k
@@ -187,49 +189,68 @@ led_sum n t l c k leading h hk un j low high = ap (λ (x : ℕ). (delta i j + x)
 
 -- ---- the counts from one vertex more, written
 
-module _ (n : ℕ) (s l : List ℕ) (h : Ordered n s l) (shape : Shape n s) (c : ℕ) (within : c + 16 ≤ n) where
-  pub filling_more : (t u : List ℕ) (k leading mask r : ℕ) → k < n → Filled n s (vertex_at l) c 16 k t → Unled n t (vertex_at l) c k leading
-      → mask ≡ bit_and (row_at t (vertex_at l k)) leading → u ≡ with_counts n t (vertex_at l k) c 16 (λ (j : ℕ). count_by_mask n t (vertex_at l k) j mask)
-      → Led (vertex_at l k) leading mask r → Filled n s (vertex_at l) c 16 (k + 1) u × Unled n u (vertex_at l) c (k + 1) r
-  filling_more t u k leading mask r hk f un em p led = (
-    filled_more n s l h shape c 16 within t u k hk f (counts_as _ _ _ _ _ _ _ p _ whole),
-    unled_more n t u (vertex_at l) c k leading mask r un led
-        (counts_in _ _ _ _ _ _ _ p (omega (arith, from_within n i (h.order.vertex k hk), f.long, shape.long, within)))
-        (λ a j d low high. counts_stay _ _ _ _ _ _ _ p within a j (omega (arith, within)) (λ e. absurd (d e))),
-  )
-    where
-      i : ℕ
-      i = vertex_at l k
+-- t is s with the counts from the first k vertices of the order l to the columns worked out; those that are not among the leading have
+-- none but 0
+pub record Filling (n : ℕ) (s l : List ℕ) (c k leading : ℕ) (t : List ℕ) : Type 0 where
+  pub filled : Filled n s (vertex_at l) c 16 k t
+  pub led : Unled n t (vertex_at l) c k leading
 
-      whole : (j : ℕ) → c ≤ j → j < c + 16 → count_by_mask n t i j mask ≡ successors_sum n t i j
-      whole j low high =
-          ap (λ (x : ℕ). count_by_mask n t i j x) em ∙ led_sum n t l c k leading (same_ordered n s t f.long f.rows l h) hk un j low high
+module _ (n : ℕ) (s l u : List ℕ) (h : Ordered n s l) (c : ℕ) (ready : BlockReady n s c u) (t : List ℕ) (k leading : ℕ)
+    (f : Filling n s l c k leading t) where
+  -- the next vertex has a row
+  pub filling_row : k < length l → vertex_at l k < length t
+  filling_row hk = omega (arith, h.order.vertex k (omega (arith, h.long)), f.filled.long, rows_within ready.shape)
+
+  pub filling_more : (v : List ℕ) (mask r : ℕ) → k < length l → v ≡ with_counts n t (vertex_at l k) c 16 (λ (j : ℕ). count_by_mask n t (vertex_at l k) j mask)
+      → mask ≡ bit_and (row_at t (vertex_at l k)) leading → Led (vertex_at l k) leading mask r → Filling n s l c (k + 1) r v
+  filling_more v mask r q p em led = let hk : k < n = omega (arith, h.long) in record {
+    filled = filled_more n s l h ready.shape c 16 ready.within t v k hk f.filled
+        (counts_as _ _ _ _ _ _ _ p _ (led_sum n t l c k leading mask em (same_ordered n s t f.filled.long f.filled.rows l h) hk f.led));
+    led = unled_more n t v (vertex_at l) c k leading _ r f.led led
+        (counts_in _ _ _ _ _ _ _ p (omega (arith, from_within n (vertex_at l k) (h.order.vertex k hk), f.filled.long, ready.shape.long, ready.within)))
+        (λ a j d low high. counts_stay _ _ _ _ _ _ _ p ready.within a j (omega (arith, ready.within)) (λ e. absurd (d e)));
+  }
+
+  pub filling_all : length l ≤ k → ColumnsFilled n s c 16 t
+  filling_all e = filled_all n s l h ready.shape c 16 ready.within t k f.filled e
 
 -- ---- the counts of a block compared
 
 -- the counts from vertex m of the order l to the columns satisfy the recurrence
-abbrev pub VertexHolds : ℕ → List ℕ → List ℕ → ℕ → ℕ → Type 0
+abbrev VertexHolds : ℕ → List ℕ → List ℕ → ℕ → ℕ → Type 0
 VertexHolds n s l c m = (j : ℕ) → c ≤ j → j < c + 16 → count_at n s (vertex_at l m) j ≡ successors_sum n s (vertex_at l m) j
 
-module _ (n : ℕ) (s l : List ℕ) (h : Ordered n s l) (c : ℕ) where
-  pub vertex_holds : (k leading mask : ℕ) (r : Bool) → k < n → Unled n s (vertex_at l) c k leading → mask ≡ bit_and (row_at s (vertex_at l k)) leading
-      → Reflects r (PartHolds n s (vertex_at l k) c mask) → Reflects r (VertexHolds n s l c k)
-  vertex_holds k leading mask r hk un em part =
-      reflects_iff (λ f j low high. f j low high ∙ whole j low high) (λ f j low high. f j low high ∙ sym (whole j low high)) part
-    where
-      whole : (j : ℕ) → c ≤ j → j < c + 16 → count_by_mask n s (vertex_at l k) j mask ≡ successors_sum n s (vertex_at l k) j
-      whole j low high = ap (λ (x : ℕ). count_by_mask n s (vertex_at l k) j x) em ∙ led_sum n s l c k leading h hk un j low high
+-- those from the first k do; those that are not among the leading have none but 0
+pub record Compared (n : ℕ) (s l : List ℕ) (c k leading : ℕ) : Type 0 where
+  pub held : (m : ℕ) → m < k → VertexHolds n s l c m
+  pub led : Unled n s (vertex_at l) c k leading
 
-  pub compared_more : (k leading mask r : ℕ) → Unled n s (vertex_at l) c k leading → Led (vertex_at l k) leading mask r
-      → PartHolds n s (vertex_at l k) c mask → Unled n s (vertex_at l) c (k + 1) r
-  compared_more k leading mask r un led part = unled_more n s s (vertex_at l) c k leading mask r un led part (λ a j d low high. refl)
+module _ (n : ℕ) (s l : List ℕ) (h : Ordered n s l) (c k leading : ℕ) (was : Compared n s l c k leading) where
+  module _ (row mask : ℕ) (is : row ≡ row_at s (vertex_at l k)) (em : mask ≡ bit_and row leading) (t : Bool)
+      (part : Reflects t (PartHolds n s (vertex_at l k) c mask)) (hk : k < n) where
+    vertex_holds : Reflects t (VertexHolds n s l c k)
+    vertex_holds = reflects_iff (λ f j low high. f j low high ∙ whole j low high) (λ f j low high. f j low high ∙ sym (whole j low high)) part
+      where
+        whole : (j : ℕ) → c ≤ j → j < c + 16 → count_by_mask n s (vertex_at l k) j mask ≡ successors_sum n s (vertex_at l k) j
+        whole = led_sum n s l c k leading mask (em ∙ ap (λ (x : ℕ). bit_and x leading) is) h hk was.led
 
-  pub block_of : (r : Bool) → Reflects r ((m : ℕ) → m < n → VertexHolds n s l c m) → Reflects r (BlockHolds n s c)
-  block_of r all =
-      reflects_iff (λ f i hi j low high. let o = h.all i hi in rw (← o.2) (f o.0 o.1 j low high)) (λ f m q. f (vertex_at l m) (h.order.vertex m q)) all
+    pub compared_more : (r : ℕ) → t ≡ true → Led (vertex_at l k) leading mask r → Compared n s l c (k + 1) r
+    compared_more r e led = record {
+      held = below_more (VertexHolds n s l c) k was.held (vertex_holds.holds e);
+      led = unled_more n s s (vertex_at l) c k leading _ r was.led led (part.holds e) (λ a j d low high. refl);
+    }
+
+    pub compared_not : t ≡ false → Reflects false (BlockHolds n s c)
+    compared_not e = reflects_none (λ f. (reflects_false vertex_holds).0 e (f (vertex_at l k) (h.order.vertex k hk)))
+
+  pub compared_all : length l ≤ k → Reflects true (BlockHolds n s c)
+  compared_all e = reflects_true (λ i hi j low high. let o = h.all i hi in rw (← o.2) (was.held o.0 (omega (arith, h.long)) j low high))
 
 -- ---- block after block
 
 -- the counts to the columns below c satisfy the recurrence
 abbrev pub Held : ℕ → List ℕ → ℕ → Type 0
 Held n s c = (i j : ℕ) → i < n → j < n → j < c → count_at n s i j ≡ successors_sum n s i j
+
+-- what is known as the counts of a block are compared
+pub ruleset compared_laws = (compared_more, compared_not)

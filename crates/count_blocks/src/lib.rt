@@ -1,19 +1,19 @@
-// The counts by blocks of 16 columns, written or tested, on sheets of 16 vertices or more: the counts from a vertex to a block's columns are
-// added up, or taken off the stored ones, at once, from those successors alone that lead to one of the columns. The columns from c on
+// The counts by blocks of 16 columns, written or tested, on sheets of 16 vertices or more: the counts from a vertex to a block's columns
+// are added up, or taken off the stored ones, at once, from those successors alone that lead to one of the columns. The columns from c on
 // are the 16 of the block that begins there.
 #![tactic(auto)]
 
-ghost use Rattle.std.specs.Prelude.{◌≡◌, ℕ, ◌+◌, ◌^◌, ◌<◌, ◌≤◌, length};
+ghost use Rattle.std.specs.Prelude.{◌≡◌, ℕ, ◌+◌, ◌^◌, ◌<◌, ◌≤◌, length, bit_and};
 ghost use Rattle.answer.specs.Table.{Reflects};
 ghost use Rattle.sheet_theory.specs.Layout.{most_vertices, Shape};
-ghost use Rattle.sheet_theory.specs.Internal.{CountsHold, RowsBelow};
+ghost use Rattle.sheet_theory.specs.Internal.{CountsHold};
 ghost use Rattle.order.specs.Internal.{Ordered};
 ghost use Rattle.vertex_counts.specs.Internal.{SameWords, counted, ColumnsFilled};
 ghost use Rattle.sheet.specs.Internal.{with_counts};
 ghost use Rattle.count_blocks.specs.Internal.{columns, UnitWords, PlaceOf, OwnBy, count_by_mask, BlockCounted, PartHolds};
 ghost use Rattle.count_blocks.specs.Internal.{HasColumns, Led, BlockAt, BlockReady, BlockHolds};
 
-use sheet::{Sheet, View};
+use sheet::View;
 use word::{Combine, Minus, Plus};
 
 // Internal: the columns of a block, whose counts are worked out together: so many that their sums fit in registers.
@@ -24,6 +24,7 @@ const UNIT_WORDS: usize = 2 * COLUMNS;
 
 // An array whose middle word is 1 and whose other words are 0. The path from i to itself is added to the sums of the block from c on as the
 // window of COLUMNS words that begins at COLUMNS less the place of i. Writing to that place would spill the sums to memory.
+#[tactic(auto, using(crate::proofs::BlockLaws::unit_made))]
 fn unit_words() -> [u64; UNIT_WORDS]
     ensures { UnitWords result }
 {
@@ -89,14 +90,14 @@ impl<'a, 'b> Block<'a, 'b> {
     }
 
     // Whether the counts from every vertex to the columns satisfy the recurrence.
-    fn holds(self, order: &[usize; Sheet::VERTICES]) -> bool
-        requires { (RowsBelow self.sheet.n self.sheet.words.now) × (Ordered self.sheet.n self.sheet.words.now order.now) }
+    #[tactic(auto, using(crate::proofs::BlockLaws::compared_laws))]
+    fn holds(self, order: &[usize]) -> bool
+        requires { Ordered self.sheet.n self.sheet.words.now order.now }
         ensures { Reflects result (BlockHolds self.entry.sheet.n self.entry.sheet.words.now self.entry.c) }
     {
         let mut leading = block_mask(self.c);
-        for &i in &order[..self.sheet.n] {
-            let mask = self.sheet.row(i) & leading;
-            leading = lead(i, leading, mask);
+        for &i in order {
+            let mask = leading_successors(i, self.sheet.row(i), &mut leading);
             if !self.part_holds(i, mask) {
                 return false;
             }
@@ -117,6 +118,7 @@ fn block_of(words: &[u64]) -> [u64; COLUMNS]
 }
 
 // The columns from c on, as a mask.
+#[tactic(auto, using(crate::proofs::BlockLaws::block_columns))]
 fn block_mask(c: usize) -> u64
     requires { c + columns ≤ most_vertices }
     ensures { HasColumns c result }
@@ -124,17 +126,19 @@ fn block_mask(c: usize) -> u64
     word::low_bits(c + COLUMNS) & !word::low_bits(c)
 }
 
-// The vertices found to lead to one of a block's columns, and i too if an edge leads from it to one of them, a vertex of the mask.
+// The vertices of the row of i that are among the leading, those found to lead to one of a block's columns. If there is one, i joins them.
 #[tactic(auto, using(crate::proofs::BlockLaws::led_set, crate::proofs::BlockLaws::led_same))]
-fn lead(i: usize, leading: u64, mask: u64) -> u64
+fn leading_successors(i: usize, row: u64, leading: &mut u64) -> u64
     requires { i < most_vertices }
-    ensures { Led i leading mask result }
+    ensures mask { result ≡ bit_and row leading.old }
+    ensures within { result ≤ row }
+    ensures led { Led i leading.old result leading.new }
 {
+    let mask = row & *leading;
     if mask != 0 {
-        word::set_bit(leading, i)
-    } else {
-        leading
+        *leading = word::set_bit(*leading, i);
     }
+    mask
 }
 
 // Where the block of columns begins that holds column c and those after it: at c, or earlier where fewer than COLUMNS are left.
@@ -161,28 +165,23 @@ fn fill_part(n: usize, sheet: &mut [u64], i: usize, c: usize, mask: u64, unit: &
     sheet::words::copy_words(COLUMNS, &t, sheet, sheet::layout::counts_start(n, i) + c);
 }
 
-// The counts from every vertex to the columns from c on, written in the order given.
-fn fill_block(
-    n: usize,
-    sheet: &mut [u64],
-    c: usize,
-    order: &[usize; Sheet::VERTICES],
-    unit: &[u64; UNIT_WORDS],
-)
-    requires { (BlockReady n sheet.old c unit.now) × (RowsBelow n sheet.old) × (Ordered n sheet.old order.now) }
+// The counts from every vertex to the columns from c on, written in the order given. A struct can't hold the order with the `&mut` either:
+// it is an order of the sheet as it was lent. `Block::holds` and `blocks_hold` walk as this and `fill_blocks` do: a walk for both would hold
+// the sheet that these write, and masks that are kept for a second loop cost a ninth of the time on sparse sheets, as tried in C.
+fn fill_block(n: usize, sheet: &mut [u64], c: usize, order: &[usize], unit: &[u64; UNIT_WORDS])
+    requires { (BlockReady n sheet.old c unit.now) × (Ordered n sheet.old order.now) }
     ensures { ColumnsFilled n sheet.old c columns sheet.new }
 {
     let mut leading = block_mask(c);
-    for &i in &order[..n] {
-        let mask = sheet[i] & leading;
-        leading = lead(i, leading, mask);
+    for &i in order {
+        let mask = leading_successors(i, sheet[i], &mut leading);
         fill_part(n, sheet, i, c, mask, unit);
     }
 }
 
 // Internal: the counts, in the order given, block by block.
-pub fn fill_blocks(n: usize, sheet: &mut [u64], order: &[usize; Sheet::VERTICES])
-    requires { (Shape n sheet.old) × (RowsBelow n sheet.old) × (Ordered n sheet.old order.now) × (columns ≤ n) }
+pub fn fill_blocks(n: usize, sheet: &mut [u64], order: &[usize])
+    requires { (Shape n sheet.old) × (Ordered n sheet.old order.now) × (columns ≤ n) }
     ensures { sheet.new ≡ counted n sheet.old }
 {
     let unit = unit_words();
@@ -192,8 +191,8 @@ pub fn fill_blocks(n: usize, sheet: &mut [u64], order: &[usize; Sheet::VERTICES]
 }
 
 // Internal: whether all counts satisfy the recurrence, block by block.
-pub fn blocks_hold(sheet: View, order: &[usize; Sheet::VERTICES]) -> bool
-    requires { (RowsBelow sheet.n sheet.words.now) × (Ordered sheet.n sheet.words.now order.now) × (columns ≤ sheet.n) }
+pub fn blocks_hold(sheet: View, order: &[usize]) -> bool
+    requires { (Ordered sheet.n sheet.words.now order.now) × (columns ≤ sheet.n) }
     ensures { Reflects result ((i : ℕ) → i < sheet.entry.n → CountsHold sheet.entry.n sheet.entry.words.now i) }
 {
     let unit = unit_words();

@@ -1,9 +1,9 @@
 -- Taking away vertices: what is known of those taken away, of those left and of the stack stays known; where none is left there is no
 -- cycle. Assumes nothing.
-use Rattle.std.proofs.Common.{◌≡◌, Some, inl, inr, List, [], ◌∷◌, ◌++◌, ℕ, ◌+◌, ◌-◌, ◌^◌, ◌≤◌, ◌<◌, length, take, sym, ap, ◌∙◌, arith}
+use Rattle.std.proofs.Common.{◌≡◌, Some, inl, inr, List, [], ◌∷◌, ◌++◌, ℕ, ◌+◌, ◌-◌, ◌^◌, ◌≤◌, ◌<◌, length, sym, ap, ◌∙◌, arith}
 use native.Mathlib.Decide.{ℕ_discrete}
 use lib.Pow.{pow_pos}
-use Rattle.std.proofs.lemmas.List.{length_push, get_or-take}
+use Rattle.std.proofs.lemmas.List.{length_push}
 use Rattle.word.specs.Bit.{bit, without_bit, bit_count}
 use Rattle.word.proofs.BitLaws.{bit_cases, bit_clear_other, clear_below, clear_lt, bit_one_lt, bit_zero}
 use Rattle.word.proofs.MaskLaws.{and_zero, bit_low}
@@ -11,8 +11,9 @@ use Rattle.word.proofs.CountLaws.{bit_count_clear, bit_count_pos, bit_count_low}
 use Rattle.graph.specs.Graph.{Edge, Acyclic}
 use Rattle.graph.proofs.Peeling.{order_acyclic}
 use Rattle.sheet_theory.specs.Layout.{row_at, edge_at}
-use Rattle.order.specs.Internal.{vertex_at, Peeled, NoneAhead, Stack, Descended, Ordered, OrderFound}
-use Rattle.order.proofs.StackLaws.{vertex_new, vertex_old, stack_less}
+use Rattle.sheet_theory.specs.Internal.{RowsBelow}
+use Rattle.order.specs.Internal.{vertex_at, Peeled, NoneAhead, Stack, Descended, Ordered}
+use Rattle.order.proofs.StackLaws.{vertex_new, vertex_old, stack_none, stack_less}
 
 module _ (n : ℕ) (s : List ℕ) (high : n ≤ 64) where
   -- ---- a vertex is taken away
@@ -69,44 +70,40 @@ module _ (n : ℕ) (s : List ℕ) (high : n ≤ 64) where
     pub last_room : length l < n
     last_room = omega (arith, h.total, bit_count_pos left v last_left (omega (arith, last_vertex)))
 
-    pub taken_peeled : Peeled n s (without_bit left v) (l ++ v ∷ [])
-    taken_peeled = peeled_more left l h v last_vertex last_left down.1
-
-    pub taken_stack : Stack n s (without_bit left v) t
-    taken_stack = stack_less n s left h.below t v down.0 down.1
-
     pub taken_less : without_bit left v < left
     taken_less = clear_lt left v last_left
+
+    module _ (r : ℕ) (er : r ≡ without_bit left v) where
+      pub taken_peeled : (m : List ℕ) → m ≡ l ++ v ∷ [] → Peeled n s r m
+      taken_peeled m em = rw (er, em) (peeled_more left l h v last_vertex last_left down.1)
+
+      pub taken_stack : Stack n s r t
+      taken_stack = rw er (stack_less n s left h.below t v down.0 down.1)
 
   -- ---- vertices are taken away as long as one is left
 
   -- at the start all are left
-  pub peeled_start : (left : ℕ) → left ≡ 2 ^ n - 1 → Peeled n s left []
-  peeled_start left el = record {
+  pub peeled_start : (left : ℕ) (l : List ℕ) → left ≡ 2 ^ n - 1 → l ≡ [] → Peeled n s left l
+  peeled_start left l el none = rw none record {
     below = rw el (omega (arith, pow_pos n));
     total = rw el (omega (arith, bit_count_low n high));
     order = record { vertex = λ m q. absurd (omega arith); earlier = λ m q. absurd (omega arith) };
     taken = λ i hi z. absurd (omega (arith, bit_low n i hi, rw el at z));
   }
 
-  -- where none is left, all have been taken away: they are the first entries of m
-  pub order_complete : (left : ℕ) (l m : List ℕ) → Peeled n s left l → left ≡ 0 → length m ≡ 64 → take (length l) m ≡ l → OrderFound n s (Some m)
-  order_complete left l m h z long first =
-      let all : length l ≡ n = omega (arith, h.total, ap bit_count z ∙ bit_count_low 0 (omega arith)) in
-      let same : (k : ℕ) → k < n → vertex_at m k ≡ vertex_at l k
-      = λ k q. sym (get_or-take (length l) m k 0 (omega arith)) ∙ ap (λ (x : List ℕ). vertex_at x k) first in
+  -- where none is left, all have been taken away
+  pub order_complete : (left : ℕ) (l : List ℕ) → RowsBelow n s → Peeled n s left l → left ≡ 0 → Ordered n s l
+  order_complete left l below h z =
+      let long : length l ≡ n = omega (arith, h.total, ap bit_count z ∙ bit_count_low 0 (omega arith)) in
       record {
+        below = below;
         long = long;
-        order = record {
-          vertex = λ k q. rw (same k q) (h.order.vertex k (omega arith));
-          earlier = λ k q a ha e.
-              let r = h.order.earlier k (omega arith) a ha (rw (same k q) at e) in
-              (r.0, r.1, same r.0 (omega arith) ∙ r.2);
-        };
-        all = λ i hi.
-            let r = h.taken i hi (ap (λ (x : ℕ). bit x i) z ∙ bit_zero i) in
-            (r.0, omega arith, same r.0 (omega arith) ∙ r.2);
+        order = rw long at h.order;
+        all = λ i hi. let r = h.taken i hi (ap (λ (x : ℕ). bit x i) z ∙ bit_zero i) in (r.0, omega arith, r.2);
       }
 
 pub ordered_acyclic : (n : ℕ) (s l : List ℕ) → Ordered n s l → Acyclic n (edge_at s)
 ordered_acyclic n s l o = order_acyclic n (edge_at s) n (vertex_at l) o.order o.all
+
+-- what is known as vertices are taken away
+pub ruleset order_laws = (stack_none, peeled_start, last_vertex, last_room, taken_peeled, taken_stack, taken_less, order_complete)

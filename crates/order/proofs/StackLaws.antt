@@ -1,8 +1,9 @@
 -- The stack of the search: vertices that are left, each with an edge to the next. It grows by a vertex ahead of it, and loses its last
 -- vertex when that one is taken away; if it would grow past n vertices there is a cycle. Assumes nothing.
-use Rattle.std.proofs.Common.{◌≡◌, Some, None, inl, inr, List, [], ◌∷◌, ◌++◌, ℕ, ◌+◌, ◌-◌, ◌^◌, ◌<◌, length, refl, sym, ◌∙◌, arith}
+use Rattle.std.proofs.Common.{◌≡◌, Option, Some, None, inl, inr, List, [], ◌∷◌, ◌++◌, ℕ, ◌+◌, ◌-◌, ◌^◌, ◌<◌, length, refl, sym, ◌∙◌, arith}
 use native.Mathlib.Decide.{ℕ_discrete}
 use lib.Bits.{bit_and}
+use Rattle.std.specs.Option.{option_to_list}
 use Rattle.std.specs.List.{slice_get}
 use Rattle.std.proofs.lemmas.Option.{none-some, slice_get_within, slice_get-get_or, get_or_from_slice_get}
 use Rattle.std.proofs.lemmas.List.{length_push, get_or_push, get_or_append_left}
@@ -14,8 +15,8 @@ use Rattle.graph.proofs.Peeling.{walk_cycle}
 use Rattle.sheet_theory.specs.Layout.{row_at, edge_at}
 use Rattle.order.specs.Internal.{vertex_at, NoneAhead, Stack, Ahead, Descended}
 
-pub stack_none : (n : ℕ) (s : List ℕ) (left : ℕ) → Stack n s left []
-stack_none n s left = record { short = omega arith; held = λ k q. absurd (omega arith); edges = λ k q. absurd (omega arith) }
+pub stack_none : (n : ℕ) (s : List ℕ) (left : ℕ) (l : List ℕ) → l ≡ [] → Stack n s left l
+stack_none n s left l e = rw e record { short = omega arith; held = λ k q. absurd (omega arith); edges = λ k q. absurd (omega arith) }
 
 -- ---- a vertex comes after a list of them
 
@@ -110,11 +111,12 @@ module _ (n : ℕ) (s : List ℕ) (left : ℕ) (below : left < 2 ^ n) where
         later = λ k e. let z : k ≡ length l = omega (arith, length_push l v) in rw (z, vertex_new l v) refl;
       }
 
-  -- ---- and ends: m is what is on the stack, and v its last vertex
+  -- ---- and ends: its last vertex is taken off
 
-  pub descended : (l : List ℕ) (next : ℕ) → Stack n s left l → Ahead s left l next → next ≡ 0 → (m : List ℕ) (v : ℕ) → l ≡ m ++ v ∷ []
-      → Descended n s left (Some v) m
-  descended l next t a z m v e =
+  pub descended : (l : List ℕ) (next : ℕ) → 0 < left → Stack n s left l → Ahead s left l next → next ≡ 0 → (o : Option ℕ) (m : List ℕ)
+      → o ≡ slice_get l (length l - 1) → l ≡ m ++ option_to_list o → Descended n s left o m
+  descended l next some t a z None m last e = absurd (omega (arith, a.first (none_last l last)))
+  descended l next some t a z (Some v) m last e =
       (rw e at t, rw (e, vertex_new m v) at (sym (a.later (length m) (rw e (length_push m v)))) ∙ z)
 
   -- ---- and its last vertex is taken away: no other is that one, since from each other an edge leads to what is left
@@ -137,3 +139,6 @@ module _ (n : ℕ) (s : List ℕ) (left : ℕ) (below : left < 2 ^ n) where
           | inl o ↦ absurd (omega (arith, rw (vertex_old l v j q, z) at (t.edges j (omega (arith, length_push l v)))))
           | inr o ↦ o
         ]
+
+-- what the search knows of its stack
+pub ruleset stack_laws = (ahead_first, none_last, ahead_later, ahead_vertex, stack_more, ahead_more, stack_cycle, descended)

@@ -4,7 +4,9 @@ use Rattle.std.specs.Int.Bits.{bit_and}
 use Rattle.word.specs.Bit.{bit, bit_count}
 use Rattle.graph.specs.Graph.{Edge, Cycle}
 use Rattle.graph.specs.Order.{Order}
-use Rattle.sheet_theory.specs.Layout.{most_vertices, row_at, edge_at}
+use Rattle.sheet_theory.specs.Layout.{row_at, edge_at}
+use Rattle.sheet_theory.specs.Internal.{RowsBelow}
+use Rattle.arrayvec.specs.ArrayVec.{ArrayVec}
 
 -- the vertex at place k of an order or of a stack
 abbrev pub vertex_at : List ℕ → ℕ → ℕ
@@ -45,13 +47,14 @@ Descended n s left None l = Cycle n (edge_at s)
 
 -- ---- what is found
 
--- l holds every vertex, each after those to which its edges lead
+-- no row of s has a bit at n or above, and l holds every vertex, each after those to which its edges lead
 pub record Ordered (n : ℕ) (s l : List ℕ) : Type 0 where
-  pub long : length l ≡ most_vertices
+  pub below : RowsBelow n s
+  pub long : length l ≡ n
   pub order : Order n (edge_at s) n (vertex_at l)
   pub all : (i : ℕ) → i < n → (m : ℕ) × (m < n) × (vertex_at l m ≡ i)
 
 -- such an order was found; or none, and there is a cycle
-abbrev pub OrderFound : ℕ → List ℕ → Option (List ℕ) → Type 0
-OrderFound n s (Some l) = Ordered n s l
+abbrev pub OrderFound : ℕ → List ℕ → Option (ArrayVec ℕ) → Type 0
+OrderFound n s (Some v) = Ordered n s v.items
 OrderFound n s None = Cycle n (edge_at s)

@@ -8,28 +8,32 @@ ghost use Rattle.std.specs.Prelude.{◌<◌, ◌^◌};
 ghost use Rattle.sheet_theory.specs.Internal.{RowsBelow};
 ghost use Rattle.order.specs.Internal.{Stack, Ahead, Descended, OrderFound};
 
-use crate::vertices::Vertices;
+use arrayvec::ArrayVec;
 use sheet::{Sheet, View};
-
-mod vertices;
 
 // Where the search can go: along an edge from the last vertex of the stack to a vertex that is left; from an empty stack, to any that is
 // left.
-fn look_ahead(sheet: View, left: u64, stack: &Vertices) -> u64
+#[tactic(auto, using(crate::proofs::StackLaws::stack_laws))]
+fn look_ahead(sheet: View, left: u64, stack: &[usize]) -> u64
     requires { (left < 2 ^ sheet.n) × (Stack sheet.n sheet.words.now left stack.now) }
     ensures { Ahead sheet.entry.words.now left stack.now result }
 {
     match stack.last() {
-        Some(v) => sheet.row(v) & left,
+        Some(v) => sheet.row(*v) & left,
         None => left,
     }
 }
 
 // Pushes vertices on the stack until no edge leads from the last one to a vertex that is left, and takes that one off the stack. None, if
 // the stack would hold more than n vertices, so that one of them would stand in it twice.
-fn descend(sheet: View, left: u64, stack: &mut Vertices) -> Option<usize>
-    requires { (0 < left) × (left < 2 ^ sheet.n) × (Stack sheet.n sheet.words.now left stack.old) }
-    ensures { Descended sheet.entry.n sheet.entry.words.now left result stack.new }
+#[tactic(auto, using(crate::proofs::StackLaws::stack_laws))]
+fn descend(
+    sheet: View,
+    left: u64,
+    stack: &mut ArrayVec<usize, { Sheet::VERTICES }>,
+) -> Option<usize>
+    requires { (0 < left) × (left < 2 ^ sheet.n) × (Stack sheet.n sheet.words.now left stack.old.items) }
+    ensures { Descended sheet.entry.n sheet.entry.words.now left result stack.new.items }
 {
     let mut ahead = look_ahead(sheet, left, stack);
     while ahead != 0 {
@@ -40,21 +44,22 @@ fn descend(sheet: View, left: u64, stack: &mut Vertices) -> Option<usize>
         stack.push(v);
         ahead = sheet.row(v) & left;
     }
-    Some(stack.pop())
+    stack.pop()
 }
 
 // Internal: every vertex, each after those to which its edges lead. None, if there is a cycle.
-pub fn find_order(sheet: View) -> Option<[usize; Sheet::VERTICES]>
+#[tactic(auto, using(crate::proofs::OrderLaws::order_laws))]
+pub fn find_order(sheet: View) -> Option<ArrayVec<usize, { Sheet::VERTICES }>>
     requires { RowsBelow sheet.n sheet.words.now }
     ensures { OrderFound sheet.entry.n sheet.entry.words.now result }
 {
-    let mut order = Vertices::none();
-    let mut stack = Vertices::none();
+    let mut order = ArrayVec::new();
+    let mut stack = ArrayVec::new();
     let mut left = word::low_bits(sheet.n);
     while left != 0 {
         let last = descend(sheet, left, &mut stack)?;
         left = word::clear_bit(left, last);
         order.push(last);
     }
-    Some(order.into_places())
+    Some(order)
 }

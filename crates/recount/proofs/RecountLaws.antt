@@ -3,7 +3,7 @@ use Rattle.std.proofs.Common.{◌≡◌, inr, List, ℕ, ◌%◌, ◌^◌, ◌<�
 use Rattle.graph.specs.Graph.{PathsExactly, Cycle}
 use Rattle.graph.specs.Count.{path_count}
 use Rattle.answer.specs.Answers.{answer}
-use Rattle.sheet_theory.specs.Conditions.{StrayRow}
+use Rattle.sheet_theory.proofs.StrayLaws.{rows_iff}
 use Rattle.sheet_theory.specs.Layout.{Shape, row_at, count_at, edge_at, set_bits}
 use Rattle.sheet_theory.specs.Lent.{lent}
 use Rattle.sheet_theory.proofs.ValidLaws.{paths_exactly, paths_fit}
@@ -11,6 +11,7 @@ use Rattle.sheet_theory.proofs.LayoutLaws.{redone_ext, length_redone, row_redone
 use Rattle.sheet_theory.proofs.SetBitsLaws.{set_bits_cong}
 use Rattle.recount_theory.specs.Calls.{row_conditions, Recounted, RecountBy}
 use Rattle.vertex_counts.specs.Internal.{counted}
+use Rattle.sheet.proofs.StrayLaws.{rows_below}
 use Rattle.order.specs.Internal.{Ordered}
 use Rattle.order.proofs.OrderLaws.{ordered_acyclic}
 
@@ -30,14 +31,17 @@ recounted_of n s t shape acyclic e =
     }
 
 module _ (n : ℕ) (s : List ℕ) (shape : Shape n s) (t : List ℕ) (e : t ≡ counted n s) where
-  pub recount_accepted : ¬ (StrayRow n s) → (l : List ℕ) → Ordered n s l → (v : ℕ) → v ≡ set_bits n t
+  pub recount_accepted : (l : List ℕ) → Ordered n s l → (v : ℕ) → v ≡ set_bits n t
       → RecountBy (row_conditions n (lent s)) n (lent s) (answer 0 0 v) (lent t)
-  recount_accepted clean l o v ev =
+  recount_accepted l o v ev =
       let acyclic = ordered_acyclic n s l o in
       record {
-        number = inr (clean, inr (acyclic, refl));
+        number = inr ((rows_iff n s).1 o.below, inr (acyclic, refl));
         place = refl;
         value = ev ∙ set_bits_cong n t s (λ i hi. ap (λ (l : List ℕ). row_at l i) e ∙ row_redone n (row_at s) _ s shape.long i hi);
         accepted = λ q. recounted_of n s t shape acyclic e;
         refused = λ d. absurd (d refl);
       }
+
+-- where no row has a bit too many there is an order or a cycle, and what was recounted in that order is accepted
+pub ruleset recount_laws = (rows_below, recount_accepted)

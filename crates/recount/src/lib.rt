@@ -8,17 +8,16 @@ ghost use Rattle.answer.specs.Table.{First, Reflects};
 ghost use Rattle.sheet_theory.specs.Layout.{Shape};
 ghost use Rattle.sheet_theory.specs.Lent.{lent};
 ghost use Rattle.sheet_theory.specs.Valid.{Valid, not_valid};
-ghost use Rattle.sheet_theory.specs.Internal.{RowsBelow};
 ghost use Rattle.recount_theory.specs.Calls.{row_conditions, RecountBy, Recount, Validate};
 ghost use Rattle.vertex_counts.specs.Internal.{counted};
 ghost use Rattle.order.specs.Internal.{Ordered};
 
-use sheet::{Answer, Refusal, Sheet, View};
+use sheet::{Answer, Refusal, View};
 
 // The counts, in the order given: each from those of its successors, which are earlier. What writes a sheet takes n and the words, here and
 // below: the reason stands at `View`.
-fn fill_counts(n: usize, sheet: &mut [u64], order: &[usize; Sheet::VERTICES])
-    requires { (Shape n sheet.old) × (RowsBelow n sheet.old) × (Ordered n sheet.old order.now) }
+fn fill_counts(n: usize, sheet: &mut [u64], order: &[usize])
+    requires { (Shape n sheet.old) × (Ordered n sheet.old order.now) }
     ensures { sheet.new ≡ counted n sheet.old }
 {
     if n < count_blocks::COLUMNS {
@@ -29,6 +28,7 @@ fn fill_counts(n: usize, sheet: &mut [u64], order: &[usize; Sheet::VERTICES])
 }
 
 // Internal: the counts of a sheet of the right shape, worked out afresh from the rows. 4 and 8 are looked for before a word is written.
+#[tactic(auto, using(crate::proofs::RecountLaws::recount_laws))]
 pub fn recount_core(n: usize, sheet: &mut [u64]) -> Result<u64, Refusal>
     requires { Shape n sheet.old }
     ensures { RecountBy (row_conditions n (lent sheet.old)) n (lent sheet.old) (answer_of result) (lent sheet.new) }
@@ -65,6 +65,7 @@ pub fn recount(n: usize, sheet: &mut [u64]) -> Answer
 }
 
 // Whether a sheet is valid. Where there is no cycle, the counts are the numbers of paths exactly if they satisfy the recurrence.
+#[tactic(auto, using(crate::proofs::ValidateLaws::valid_laws))]
 fn is_valid(sheet: View) -> bool
     ensures { Reflects result (Valid sheet.entry.n (lent sheet.entry.words.now)) }
 {

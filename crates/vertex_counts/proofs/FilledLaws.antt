@@ -82,11 +82,11 @@ module _ (n : ℕ) (s l : List ℕ) (h : Ordered n s l) (shape : Shape n s) (c w
 
   -- ---- all vertices
 
-  pub filled_all : (t : List ℕ) (k : ℕ) → Filled n s (vertex_at l) c w k t → k ≡ n → ColumnsFilled n s c w t
+  pub filled_all : (t : List ℕ) (k : ℕ) → Filled n s (vertex_at l) c w k t → length l ≤ k → ColumnsFilled n s c w t
   filled_all t k f e = record {
     long = f.long;
     rows = f.rows;
-    filled = λ i j hi hj lo q. let o = h.all i hi in rw (← o.2) (f.done o.0 (omega (arith, o.1)) j lo q);
+    filled = λ i j hi hj lo q. let o = h.all i hi in rw (← o.2) (f.done o.0 (omega (arith, o.1, h.long)) j lo q);
     kept = f.kept;
     rest = f.rest;
   }
@@ -94,6 +94,7 @@ module _ (n : ℕ) (s l : List ℕ) (h : Ordered n s l) (shape : Shape n s) (c w
 -- the rows stay, and with them the order and what the edges lead to
 pub same_ordered : (n : ℕ) (s t : List ℕ) → length t ≡ length s → ((i : ℕ) → i < n → row_at t i ≡ row_at s i) → (l : List ℕ) → Ordered n s l → Ordered n t l
 same_ordered n s t long rows l h = record {
+  below = λ i hi. rw (rows i hi) (h.below i hi);
   long = h.long;
   order = record {
     vertex = h.order.vertex;

@@ -31,13 +31,14 @@ pub fn same_words(words: &[u64], t: &[u64]) -> bool
     ensures { Reflects result (SameWords (length words.now) words.now t.now) }
 {
     let mut difference = 0;
-    for (j, x) in words.iter().enumerate() {
-        difference |= *x ^ t[j];
+    for (x, y) in words.iter().zip(t) {
+        difference |= *x ^ *y;
     }
     difference == 0
 }
 
 // Whether the counts from i satisfy the recurrence.
+#[tactic(auto, using(crate::proofs::CountsLaws::holds_same))]
 fn counts_hold(sheet: View, i: usize) -> bool
     requires { (i < sheet.n) × (row_at sheet.words.now i < 2 ^ sheet.n) }
     ensures { Reflects result (CountsHold sheet.entry.n sheet.entry.words.now i) }
@@ -68,12 +69,14 @@ fn fill_counts_from(n: usize, sheet: &mut [u64], v: usize)
     sheet::words::copy_words(n, &t, sheet, sheet::layout::counts_start(n, v));
 }
 
-// Internal: the counts, in the order given, vertex by vertex.
-pub fn fill_all_counts(n: usize, sheet: &mut [u64], order: &[usize; Sheet::VERTICES])
-    requires { (Shape n sheet.old) × (RowsBelow n sheet.old) × (Ordered n sheet.old order.now) }
+// Internal: the counts, in the order given, vertex by vertex. A struct can't hold the order with the `&mut` either: it is an order of the
+// sheet as it was lent. `all_counts_hold` has a loop of its own, since it needs no order: one for both would be lent a `&mut` for a test.
+#[tactic(auto, using(crate::proofs::FilledLaws::filled_more))]
+pub fn fill_all_counts(n: usize, sheet: &mut [u64], order: &[usize])
+    requires { (Shape n sheet.old) × (Ordered n sheet.old order.now) }
     ensures { sheet.new ≡ counted n sheet.old }
 {
-    for &v in &order[..n] {
+    for &v in order {
         fill_counts_from(n, sheet, v);
     }
 }

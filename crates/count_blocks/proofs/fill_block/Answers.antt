@@ -1,25 +1,12 @@
 -- `count_blocks::fill_block` meets its contract: the counts from the vertex at the next place of the order are worked out. Assumes nothing.
-use Rattle.std.proofs.Common.{refl, get_or-take, arith}
-use Rattle.sheet_theory.proofs.LayoutLaws.{rows_within}
-use Rattle.vertex_counts.proofs.FilledLaws.{filled_all}
-use Rattle.count_blocks.proofs.BlockLaws.{filling_more}
+use Rattle.count_blocks.proofs.BlockLaws.{filling_row, filling_more, filling_all}
 use Rattle.count_blocks.proofs.fill_block.Goals as goal
 
 pub bounds-sheet-i : goal.bounds-sheet-i
-bounds-sheet-i c =
-    let a = c.args in
-    let l = c.loop-i in
-    let e = get_or-take a.n a.order.now l.i-index 0 (omega arith) in
-    omega (arith, e, c.requires.2.order.vertex l.i-index (omega arith), l.invariant.filled.long, rows_within c.requires.0.shape)
+bounds-sheet-i c = search filling_row
 
 pub loop-i-preserved : goal.loop-i-preserved
-loop-i-preserved c =
-    let a = c.args in
-    let l = c.loop-i in
-    let e = get_or-take a.n a.order.now l.i-index 0 (omega arith) in
-    let more = filling_more a.n a.sheet.now a.order.now c.requires.2 c.requires.0.shape a.c c.requires.0.within _ _ l.i-index l.leading _ _ (omega arith)
-    l.invariant.filled l.invariant.led refl (rw e at c.fill_part.ensures) (rw e at c.lead-leading.ensures) in
-    record { filled = more.0; led = more.1 }
+loop-i-preserved c = search filling_more
 
 pub returns : goal.returns
-returns c = filled_all _ _ _ c.requires.2 c.requires.0.shape _ 16 c.requires.0.within _ _ c.loop-i.invariant.filled (omega arith)
+returns c = search filling_all

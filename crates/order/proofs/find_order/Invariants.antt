@@ -4,7 +4,7 @@ use Rattle.order.specs.Internal.{Peeled, Stack}
 use Rattle.order.proofs.find_order.Given as goal
 
 abbrev pub invariant-loop-left : goal.invariant-loop-left
-invariant-loop-left l = (Peeled l.sheet.n l.sheet.words.now l.left l.order) × (Stack l.sheet.n l.sheet.words.now l.left l.stack)
+invariant-loop-left l = (Peeled l.sheet.n l.sheet.words.now l.left l.order.items) × (Stack l.sheet.n l.sheet.words.now l.left l.stack.items)
 
 abbrev pub decreases-loop-left : goal.decreases-loop-left
 decreases-loop-left l = l.left
