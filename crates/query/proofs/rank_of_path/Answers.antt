@@ -19,17 +19,17 @@ returns-in_err-sheet c =
     refused_with (rank_conditions n s p) _ (rank_first n s p) _ _ e (search rules)
     (shape_refused n s _ c.in_err-sheet.ensures.number (refusal_some e) (path_conditions n s p))
 
-pub returns-in_err-path : goal.returns-in_err-path
-returns-in_err-path c =
+pub returns-in_err-check_path : goal.returns-in_err-check_path
+returns-in_err-check_path c =
     let n = c.args.n in
     let s = lent c.args.sheet.now in
     let p = c.args.path.now in
     let v = c.in_ok-sheet.ensures.view in
-    refused_with (rank_conditions n s p) _ (rank_first n s p) _ _ c.in_err-path.field-0.0 (search rules)
-    (past_shape n s (path_conditions n s p) _ c.in_ok-sheet.ensures.number (rw (v.0, v.1) at c.in_err-path.ensures))
+    refused_with (rank_conditions n s p) _ (rank_first n s p) _ _ c.in_err-check_path.field-0.0 (search rules)
+    (past_shape n s (path_conditions n s p) _ c.in_ok-sheet.ensures.number (rw (v.0, v.1) at c.in_err-check_path.ensures))
 
 pub path_rank-requires : goal.path_rank-requires
-path_rank-requires c = vertices_of _ c.args.path.now (first_not (path_conditions _ _ _) 0 c.in_ok-path.ensures 3 refl)
+path_rank-requires c = vertices_of _ c.args.path.now (first_not (path_conditions _ _ _) 0 c.in_ok-check_path.ensures 3 refl)
 
 pub returns : goal.returns
 returns c =
@@ -38,5 +38,5 @@ returns c =
     let p = c.args.path.now in
     let v = c.in_ok-sheet.ensures.view in
     accepted_with (rank_conditions n s p) _ (rank_first n s p) _ _
-    (past_shape n s (path_conditions n s p) 0 c.in_ok-sheet.ensures.number (rw (v.0, v.1) at c.in_ok-path.ensures))
+    (past_shape n s (path_conditions n s p) 0 c.in_ok-sheet.ensures.number (rw (v.0, v.1) at c.in_ok-check_path.ensures))
     (rw (v.0, v.1) at c.path_rank.ensures)
