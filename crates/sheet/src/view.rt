@@ -49,6 +49,7 @@ impl<'a> View<'a> {
     }
 
     // Internal: row i.
+    #[tactic(auto, using(sheet_theory::proofs::LayoutLaws::rows_within))]
     pub fn row(self, i: usize) -> u64
         requires { i < self.n }
         ensures { result ≡ row_at self.entry.words.now i }
@@ -57,6 +58,7 @@ impl<'a> View<'a> {
     }
 
     // Internal: whether there is an edge from vertex i to vertex j.
+    #[tactic(auto, using(sheet_theory::proofs::LayoutLaws::rows_within))]
     pub fn has_edge(self, i: usize, j: usize) -> bool
         requires { (i < self.n) × (j < self.n) }
         ensures { result ≡ has_bit (row_at self.entry.words.now i) j }

@@ -1,15 +1,17 @@
--- `query::write_walk` meets its contract: each way out is a law of CallLaws. Assumes nothing.
+-- `query::write_walk` meets its contract: each way out is a law of ShapeLaws or of CallLaws. Assumes nothing.
 use Rattle.std.proofs.Common.{rules}
 use Rattle.answer.specs.declared.Refusal.TheVariants.{NotValid}
 use Rattle.sheet_theory.specs.Lent.{lent}
-use Rattle.query.proofs.CallLaws.{unrank_unsized, unrank_stops, unrank_astray, unrank_arrived, found_none, found_some}
+use Rattle.sheet_theory.proofs.ShapeLaws.{unsized_answer, unsized_after}
+use Rattle.query_theory.proofs.Refusals.{unrank_sized}
+use Rattle.query.proofs.CallLaws.{unrank_stops, unrank_astray, unrank_arrived, found_none, found_some}
 use Rattle.query.proofs.write_walk.Goals as goal
 
 pub returns-in_err-sheet : goal.returns-in_err-sheet
-returns-in_err-sheet c =
-    let a = c.args in
-    let way = unrank_unsized a.n (lent a.sheet.now) a.from a.to a.k a.path.now c.from_residual.result c.in_err-sheet.field-0.0 (search rules) c.in_err-sheet.ensures.number in
-    record { answer = way.0; bytes = way.1 }
+returns-in_err-sheet c = record {
+  answer = unsized_answer (unrank_sized _ _ _ _ _ _) _ c.in_err-sheet.ensures.number _ _ (search rules);
+  bytes = unsized_after (unrank_sized _ _ _ _ _ _) _ c.in_err-sheet.ensures.number _ _;
+}
 
 pub returns-in_err-check_walk : goal.returns-in_err-check_walk
 returns-in_err-check_walk c =
