@@ -116,6 +116,7 @@ impl<'a> View<'a> {
 
     // Internal: the counts from the vertices of the mask to the w columns from c on, combined with the first w words of t: added up, or
     // taken off.
+    // A mask has no type of its own: that would have to hold n, and each contract would say `mask.n ≡ sheet.n` in place of `mask < 2 ^ n`.
     pub fn combine_counts<C: Combine>(self, c: usize, w: usize, mask: u64, t: &mut [u64])
         requires { (c + w ≤ self.n) × (mask < 2 ^ self.n) × (w ≤ length t.old) }
         ensures { SumsBy C.op self.entry.n self.entry.words.now c w mask t.old t.new self.entry.n }

@@ -32,7 +32,7 @@ of_bits f = sum word_bits (λ j. f j * 2 ^ j)
 unfoldable pub bit_count : ℕ → ℕ
 bit_count x = sum word_bits (λ j. bit x j)
 
--- r is the place of the lowest bit of x that is set: below every n that has x below 2 ^ n
+-- r is the place of the lowest bit of x that is set; it is below n where x is below 2 ^ n
 pub record Lowest (x r : ℕ) : Type 0 where
   pub within : r < word_bits
   pub set : bit x r ≡ 1
