@@ -20,7 +20,7 @@ pub(crate) struct WithoutEdge {
 impl WithoutEdge {
     // Whether such a path may be asked for, or why not: 3, 7.
     pub(crate) fn check(self, sheet: View) -> Result<(), Refusal>
-        ensures { First (without_conditions sheet.entry.n (lent sheet.entry.words.now) self.from self.to self.edge_from self.edge_to) (number_of result) }
+        ensures { First (without_conditions sheet.entry.n (lent sheet.entry.words.now) self) (number_of result) }
     {
         if sheet.n <= self.from.max(self.to).max(self.edge_from.max(self.edge_to)) {
             return Err(Refusal::Vertex);

@@ -1,5 +1,5 @@
--- The laws of the checks that every call makes first: 1, n is not 1 to 64; 2, the sheet isn't n + n × n words; and of the check of
--- two vertices: 3, one of them is n or more. Assumes nothing.
+-- The laws of the checks that every call makes first: 1, n is not 1 to 64; 2, the sheet isn't n + n × n words; of the check of two
+-- vertices: 3, one of them is n or more; and of what a call answers and leaves, by what these checks gave. Assumes nothing.
 use mathlib.Core.Path.{◌≡◌, refl, sym, ◌∙◌}
 use mathlib.Core.Logic.{inl, inr}
 use mathlib.Core.Bool.{◌||◌}
@@ -18,7 +18,7 @@ use Rattle.sheet_theory.specs.Layout.{size}
 use Rattle.sheet_theory.specs.Lent.{Lent, Lends}
 use Rattle.sheet_theory.specs.Conditions.{BadVertices, BadLength, length_test, vertex_conditions, vertex_tests, sized, sized_tests}
 use Rattle.answer.proofs.TableLaws.{Agree, reflects_or, reflects_not, reflects_lt, reflects_le, reflects_eq, first_only, first_rest, first_more}
-use Rattle.answer.proofs.ByNumber.{first_not, first_after}
+use Rattle.answer.proofs.ByNumber.{first_not}
 use Rattle.answer.proofs.OutcomeLaws.{refusal_some, refused_with, refused_leaves, accepted_with, accepted_leaves}
 
 -- whether a sheet has the number of words
@@ -101,12 +101,6 @@ module _ (n i j : ℕ) where
   vertex_below cs f =
       let r = first_not (vertex_conditions n i j cs) 0 f 3 refl in
       (lt_of_not-le (λ l. r (inl l)), lt_of_not-le (λ l. r (inr l)))
-
--- ---- both checks, one after the other
-
-module _ (n : ℕ) (s : Lent) (i j : ℕ) where
-  pub vertices_then : (k m : ℕ) → First (sized n s []) k → k ≡ 0 → First (vertex_conditions n i j []) m → First (sized n s (vertex_conditions n i j [])) m
-  vertices_then k m f z g = first_after (sized n s []) (vertex_conditions n i j []) k m refl f z g
 
 -- ---- the ways out of a call
 
