@@ -17,7 +17,7 @@ use Rattle.edit_theory.specs.Book.{opened}
 use Rattle.edit_theory.specs.Table.{argued, most_parallel, effects}
 use Rattle.edit_theory.specs.Outcome.{edited_row, edited, edit_grounds, edit_words, edit_made, edit_answer, edit_after}
 use Rattle.edit_theory.proofs.ConditionLaws.{argued_refused, argued_iff}
-use Rattle.edit_theory.proofs.Refusals.{edit_sized}
+use Rattle.edit_theory.proofs.Refusals.{edit_first}
 use Rattle.edit.specs.Internal.{EditNumber, Written, Made, rows_edited}
 
 -- ---- the counts and then the rows
@@ -67,7 +67,7 @@ module _ (e : Edit) (s : Lent) (f : First (altering e.vertices s []) 0) where
       → (answer_of o ≡ edit_answer e s) × (s ≡ edit_after e s)
   argument_refused r g o eo =
       let h = argued_refused e.vertices e.edges _ _ g (refusal_some r) in
-      (refused_answer (edit_sized e s) f r h _ o eo, refused_after (edit_sized e s) f r h _ s)
+      (refused_answer (edit_first e s) f r h _ o eo, refused_after (edit_first e s) f r h _ s)
 
   -- or as `edit_at` answers, at the vertex and by the masks of the edit's edges
   module _ (g : First (argued e.vertices e.edges []) 0) (inserts : Bool) (n v a b : ℕ) (names : Names e inserts n v a b) where
@@ -83,7 +83,7 @@ module _ (e : Edit) (s : Lent) (f : First (altering e.vertices s []) 0) where
     pub call_edited : (r : Answer) (t : Lent) → Made (EditNumber inserts n s v a b) (edges_edit inserts n v a b) s r t → (r ≡ edit_answer e s) × (t ≡ edit_after e s)
     call_edited r t made =
         let h = rw (names.direction, names.vertices, names.vertex, names.predecessors, names.successors) at made in
-        let q = number_past (edit_sized e s) f r.number ((argued_iff e.vertices e.edges _ _ g).1 (same_effects e.inserts e.edges _ h.number)) in (
+        let q = number_past (edit_first e s) f r.number ((argued_iff e.vertices e.edges _ _ g).1 (same_effects e.inserts e.edges _ h.number)) in (
           h.answers ∙ ap (λ (y : ℕ). answered y (set_bits e.vertices (edit_words e s))) q,
           h.leaves ∙ ap (λ (y : ℕ). decided y (edit_made e s) s) q,
         )

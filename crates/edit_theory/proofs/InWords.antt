@@ -34,7 +34,7 @@ use Rattle.edit_theory.proofs.TestLaws.{named_reflects}
 use Rattle.edit_theory.proofs.NamedLaws.{named_edge}
 use Rattle.edit_theory.proofs.EditedRow.{bit_edited, edited_lt}
 use Rattle.edit_theory.proofs.FreshLaws.{valid_modelled}
-use Rattle.edit_theory.proofs.Refusals.{edit_sized, edit_table}
+use Rattle.edit_theory.proofs.Refusals.{edit_first, edit_table}
 use Rattle.edit_theory.proofs.StepLaws.{number_first}
 
 -- the edit of the edges g
@@ -131,13 +131,13 @@ module _ (n : ℕ) (s : Lent) where
         let grounds = edit_grounds (edit n g true) s in
         argued_under g (effects true n most_parallel g (opened n s) grounds) (inserting n s v A B (Closing n s v A B)) _
         (inserting_of n s v A B grounds (Closing n s v A B) _ (closing_of n s v A B, of_closing n s v A B))
-        (edit_sized (edit n g true) s).first
+        (edit_first (edit n g true) s).first
 
     deletion_first : First (altering n s (argued n g (deleting n s v A B))) (edit_number (edit n g false) s)
     deletion_first =
         let grounds = edit_grounds (edit n g false) s in
         argued_under g (effects false n most_parallel g (opened n s) grounds) (deleting n s v A B) _
-        (deleting_of n s v A B grounds _) (edit_sized (edit n g false) s).first
+        (deleting_of n s v A B grounds _) (edit_first (edit n g false) s).first
 
     -- a valid sheet has the number of words, and the model that it opens the number of vertices
     insertion_valid : Valid n s → First (altering n s (argued n g (inserting n s v A B (Closed n s v A B)))) (edit_number (edit n g true) s)

@@ -14,7 +14,7 @@ use Rattle.sheet_theory.specs.Conditions.{sized}
 use Rattle.sheet_theory.proofs.ShapeLaws.{refused_answer, refused_after, accepted_answer, accepted_after}
 use Rattle.query_theory.specs.ReachesWithout.{product, reaches_without}
 use Rattle.query_theory.specs.Unrank.{walk, walk_conditions, unrank_answer, unrank_after}
-use Rattle.query_theory.proofs.Refusals.{unrank_sized}
+use Rattle.query_theory.proofs.Refusals.{unrank_first}
 use Rattle.query.specs.Internal.{before_walk, IsWalk}
 
 -- ---- reaches_without: x is the product, c the count, r whether they differ
@@ -46,7 +46,7 @@ module _ (n : ℕ) (s : Lent) (i j k : ℕ) (p : List ℕ) (f : First (sized n s
 
   unrank_refused : (o : Result ℕ Refusal) (e : Refusal) → o ≡ Err e → First (first_checks ++ walk_conditions n s i j k) (number_of_refusal e)
       → (answer_of o ≡ unrank_answer n s i j k (length p)) × (p ≡ unrank_after n s i j k p)
-  unrank_refused o e eo h = let u = unrank_sized n s i j k (length p) in (refused_answer u f e h _ o eo, refused_after u f e h _ p)
+  unrank_refused o e eo h = let u = unrank_first n s i j k (length p) in (refused_answer u f e h _ o eo, refused_after u f e h _ p)
 
   -- by what is looked for before the walk
   pub unrank_stops : (o : Result ℕ Refusal) (e : Refusal) → o ≡ Err e → First first_checks (number_of_refusal e)
@@ -64,7 +64,7 @@ module _ (n : ℕ) (s : Lent) (i j k : ℕ) (p : List ℕ) (f : First (sized n s
     pub unrank_arrived : (l q : List ℕ) → IsWalk n s.words i j k l → q ≡ written l p
         → (answer 0 0 (length l) ≡ unrank_answer n s i j k (length p)) × (q ≡ unrank_after n s i j k p)
     unrank_arrived l q w eq =
-        let u = unrank_sized n s i j k (length p) in
+        let u = unrank_first n s i j k (length p) in
         let here : First (first_checks ++ walk_conditions n s i j k) 0 = past_checks 0 (inr ((λ e. omega (arith, w.some, ap length (w.is ∙ e))), refl)) in (
           accepted_answer u f here _ _ (ap length w.is),
           accepted_after u f here _ p q (eq ∙ ap (λ (x : List ℕ). written x p) w.is),

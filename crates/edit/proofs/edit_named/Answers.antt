@@ -2,16 +2,16 @@
 use Rattle.std.proofs.Common.{rules}
 use Rattle.sheet_theory.specs.Lent.{lent}
 use Rattle.sheet_theory.proofs.ShapeLaws.{unsized_answer, unsized_after}
-use Rattle.edit_theory.proofs.Refusals.{edit_sized}
+use Rattle.edit_theory.proofs.Refusals.{edit_first}
 use Rattle.edit.specs.Internal.{edit_of}
 use Rattle.edit.proofs.EditLaws.{argument_refused, names_shape, call_edited}
 use Rattle.edit.proofs.edit_named.Goals as goal
 
 pub returns-in_err-altering-clause-answer : goal.returns-in_err-altering-clause-answer
-returns-in_err-altering-clause-answer c = unsized_answer (edit_sized (edit_of c.args.inserts c.args.n c.args.named) _) _ c.in_err-altering.ensures _ _ (search rules)
+returns-in_err-altering-clause-answer c = unsized_answer (edit_first (edit_of c.args.inserts c.args.n c.args.named) _) _ c.in_err-altering.ensures _ _ (search rules)
 
 pub returns-in_err-altering-clause-words : goal.returns-in_err-altering-clause-words
-returns-in_err-altering-clause-words c = unsized_after (edit_sized (edit_of c.args.inserts c.args.n c.args.named) _) _ c.in_err-altering.ensures _ _
+returns-in_err-altering-clause-words c = unsized_after (edit_first (edit_of c.args.inserts c.args.n c.args.named) _) _ c.in_err-altering.ensures _ _
 
 pub returns-in_err-edges : goal.returns-in_err-edges
 returns-in_err-edges c =

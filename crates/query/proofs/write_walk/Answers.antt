@@ -3,14 +3,14 @@ use Rattle.std.proofs.Common.{rules}
 use Rattle.answer.specs.declared.Refusal.TheVariants.{NotValid}
 use Rattle.sheet_theory.specs.Lent.{lent}
 use Rattle.sheet_theory.proofs.ShapeLaws.{unsized_answer, unsized_after}
-use Rattle.query_theory.proofs.Refusals.{unrank_sized}
+use Rattle.query_theory.proofs.Refusals.{unrank_first}
 use Rattle.query.proofs.CallLaws.{unrank_stops, unrank_astray, unrank_arrived, found_none, found_some}
 use Rattle.query.proofs.write_walk.Goals as goal
 
 pub returns-in_err-sheet : goal.returns-in_err-sheet
 returns-in_err-sheet c = record {
-  answer = unsized_answer (unrank_sized _ _ _ _ _ _) _ c.in_err-sheet.ensures.number _ _ (search rules);
-  bytes = unsized_after (unrank_sized _ _ _ _ _ _) _ c.in_err-sheet.ensures.number _ _;
+  answer = unsized_answer (unrank_first _ _ _ _ _ _) _ c.in_err-sheet.ensures.number _ _ (search rules);
+  bytes = unsized_after (unrank_first _ _ _ _ _ _) _ c.in_err-sheet.ensures.number _ _;
 }
 
 pub returns-in_err-check_walk : goal.returns-in_err-check_walk
