@@ -9,13 +9,12 @@ ghost use Rattle.query_theory.specs.ReachesWithout.{reaches_without_answer};
 ghost use Rattle.query_theory.specs.Unrank.{unrank_answer, unrank_after};
 ghost use Rattle.query_theory.specs.Rank.{rank_answer};
 
-use sheet::{Answer, Refusal, Sheet, View};
-
 mod checks;
 mod passed;
 mod walk;
 mod without;
 
+use sheet::{Answer, Refusal, Sheet, View};
 use without::WithoutEdge;
 
 // Whether the product of the counts to an edge and from it differs from the count between two vertices; on a valid sheet, whether
