@@ -92,6 +92,7 @@ impl<'a> View<'a> {
     }
 
     // Internal: whether a row has a bit at n or above.
+    #[tactic(auto, using(crate::proofs::SliceLaws::rows_taken))]
     pub fn has_stray_row(self) -> bool
         ensures { Reflects result (StrayRow self.entry.n self.entry.words.now) }
     {
@@ -104,6 +105,7 @@ impl<'a> View<'a> {
     }
 
     // Internal: the set bits of all rows.
+    #[tactic(auto, using(crate::proofs::SliceLaws::rows_taken))]
     pub fn set_bits(self) -> u64
         ensures { result ≡ set_bits self.entry.n self.entry.words.now }
     {
