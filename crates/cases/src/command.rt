@@ -1,9 +1,10 @@
 // The words of a line, and the commands that are a name with numbers.
 use crate::fault::Fault;
 use arrayvec::ArrayVec;
+use sheet::Sheet;
 
-// The most numbers of a line: with each stands a space, and the whole input is shorter than its buffer.
-pub const NUMBERS: usize = script::INPUT / 2;
+// One vertex more than the longest path has: no line has more numbers.
+pub const NUMBERS: usize = Sheet::VERTICES + 1;
 
 // Whether a byte stands between two words.
 fn is_space(byte: &u8) -> bool {

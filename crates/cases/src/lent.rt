@@ -24,16 +24,17 @@ pub struct Lent {
     kept: [u64; WORDS],
 }
 
-// So many items of one value, if there are no more than the most.
-fn filled<T: Copy + Default + Drop, const MOST: usize>(
+// Makes the items so many of one value, if there are no more than the most.
+fn fill<T: Copy + Default + Drop, const MOST: usize>(
+    items: &mut ArrayVec<T, MOST>,
     count: usize,
     value: T,
-) -> Result<ArrayVec<T, MOST>, Fault> {
-    let mut items = ArrayVec::new();
+) -> Result<(), Fault> {
+    items.clear();
     for _ in 0..count {
         items.try_push(value)?;
     }
-    Ok(items)
+    Ok(())
 }
 
 impl Lent {
@@ -50,7 +51,7 @@ impl Lent {
 
     // Lends so many words of this value.
     pub fn lend_words(&mut self, count: usize, value: u64) -> Result<(), Fault> {
-        self.words = filled(count, value)?;
+        fill(&mut self.words, count, value)?;
         self.value = value;
         Ok(())
     }
@@ -74,8 +75,7 @@ impl Lent {
 
     // Lends so many bytes of this value.
     pub fn lend_bytes(&mut self, count: usize, value: u8) -> Result<(), Fault> {
-        self.bytes = filled(count, value)?;
-        Ok(())
+        fill(&mut self.bytes, count, value)
     }
 
     // Lends the bytes of a text, with a line feed in place of each `/`.

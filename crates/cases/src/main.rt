@@ -2,8 +2,8 @@
 // what the calls answer. The program knows no case and no answer: the cases stand in the file stdin beside it, the answers in stdout.
 //
 // A line of the script is a command, with one space between two words. Numbers are decimal, of 64 bits. A line that is empty or begins
-// with `#` is skipped. One that is no such command, or has a number that is too great for a buffer, ends the program with a line that
-// says which it is. A script of 65,536 bytes or more is not taken.
+// with `#` is skipped. One that is no such command, has more than 65 numbers, or has a number that is too great for a buffer, ends the
+// program with a line that says which it is. A script of 65,536 bytes or more is not taken.
 //
 //     heading TEXT         prints the text
 //     n N                  the number of vertices in the calls from here on

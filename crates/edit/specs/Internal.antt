@@ -50,7 +50,8 @@ MadeAt x s r t =
 abbrev pub RefusedBits : Bool → ℕ → ℕ → Type 0
 RefusedBits inserts row r = (j : ℕ) → j < word_bits → (bit r j ≡ 1) ↔ (bit row j ≡ one_if inserts)
 
--- where Test k t says that a test answers t at the place k: r says whether it passes some place of the mask
+-- Test k t means that the test answers t when it is called with k. r tells whether it answers true for some k whose bit in the mask is 1:
+-- if r is true there is such a k, and if r is false the test answers false for every k whose bit is 1
 pub record Tells (mask : ℕ) (Test : ℕ → Bool → Type 0) (r : Bool) : Type 0 where
   pub passes : r ≡ true → (k : ℕ) × (bit mask k ≡ 1) × Test k true
   pub fail : r ≡ false → (k : ℕ) → bit mask k ≡ 1 → Test k false

@@ -38,6 +38,7 @@ fn some_of<F: Fn(usize) -> bool>(mask: u64, test: F) -> bool
 }
 
 // Whether an insertion finds one of the edges to v, or a deletion misses one.
+#[tactic(auto, using(word::proofs::BitLaws::bit_one_lt))]
 fn some_into(edges: EdgesAt, sheet: View) -> bool
     requires { sheet.n ≡ edges.n }
     ensures { Reflects result (SomeOf sheet.entry.n edges.predecessors (λ (i : ℕ). edge_at sheet.entry.words.now i edges.v ≡ one_if edges.inserts)) }
@@ -60,6 +61,7 @@ fn some_edge(edges: EdgesAt, sheet: View) -> bool
 }
 
 // Whether a count from x to a vertex of the mask is not 0.
+#[tactic(auto, using(word::proofs::BitLaws::bit_one_lt))]
 fn meets(sheet: View, x: usize, mask: u64) -> bool
     requires { (x < sheet.n) × (mask < 2 ^ sheet.n) }
     ensures { Reflects result (Meets sheet.entry.n sheet.entry.words.now mask x) }
@@ -69,6 +71,7 @@ fn meets(sheet: View, x: usize, mask: u64) -> bool
 }
 
 // Whether a count from a vertex of the one mask to a vertex of the other is not 0.
+#[tactic(auto, using(word::proofs::BitLaws::bit_one_lt))]
 fn some_meets(sheet: View, starts: u64, ends: u64) -> bool
     requires { (starts < 2 ^ sheet.n) × (ends < 2 ^ sheet.n) }
     ensures { Reflects result (SomeOf sheet.entry.n starts (Meets sheet.entry.n sheet.entry.words.now ends)) }

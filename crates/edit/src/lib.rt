@@ -21,6 +21,7 @@ use edit_counts::EdgesAt;
 use sheet::{Answer, Refusal, View};
 
 // The edit, written: the counts, and then the rows. Gives the number of set bits in all rows afterwards.
+// What writes a sheet takes n or the edges, which have n, and the words, here and below: the reason stands at `View`.
 fn write_edit(edges: EdgesAt, sheet: &mut [u64]) -> u64
     requires { Shape edges.n sheet.old }
     ensures { Written edges.inserts edges.n sheet.old edges.v edges.predecessors edges.successors result sheet.new }

@@ -17,6 +17,8 @@ fn mark(inserts: bool, row: u64, mask: u64) -> u64
 }
 
 // Bit v of the rows of the predecessors set, or cleared.
+// What writes a sheet takes the edges, which have n, and the words, here and below: the reason stands at `View`.
+#[tactic(auto, using(sheet_theory::proofs::LayoutLaws::rows_within))]
 fn mark_into(edges: EdgesAt, sheet: &mut [u64])
     requires { Shape edges.n sheet.old }
     ensures { sheet.new ≡ rows_edited edges.inserts edges.n sheet.old edges.v edges.predecessors 0 }
@@ -27,6 +29,7 @@ fn mark_into(edges: EdgesAt, sheet: &mut [u64])
 }
 
 // Every row as the edit leaves it.
+#[tactic(auto, using(sheet_theory::proofs::LayoutLaws::rows_within, crate::proofs::EditedRows::rows_edited_lem))]
 pub(crate) fn edit_rows(edges: EdgesAt, sheet: &mut [u64])
     requires { Shape edges.n sheet.old }
     ensures { sheet.new ≡ rows_edited edges.inserts edges.n sheet.old edges.v edges.predecessors edges.successors }

@@ -131,13 +131,13 @@ module _ (n : ℕ) (s : Lent) where
         let grounds = edit_grounds (edit n g true) s in
         argued_under g (effects true n most_parallel g (opened n s) grounds) (inserting n s v A B (Closing n s v A B)) _
         (inserting_of n s v A B grounds (Closing n s v A B) _ (closing_of n s v A B, of_closing n s v A B))
-        (edit_first (edit n g true) s)
+        (edit_first (edit n g true) s).first
 
     deletion_first : First (altering n s (argued n g (deleting n s v A B))) (edit_number (edit n g false) s)
     deletion_first =
         let grounds = edit_grounds (edit n g false) s in
         argued_under g (effects false n most_parallel g (opened n s) grounds) (deleting n s v A B) _
-        (deleting_of n s v A B grounds _) (edit_first (edit n g false) s)
+        (deleting_of n s v A B grounds _) (edit_first (edit n g false) s).first
 
     -- a valid sheet has the number of words, and the model that it opens the number of vertices
     insertion_valid : Valid n s → First (altering n s (argued n g (inserting n s v A B (Closed n s v A B)))) (edit_number (edit n g true) s)

@@ -7,19 +7,15 @@ use Rattle.answer.specs.declared.Refusal.TheVariants.{NotValid}
 use Rattle.answer.specs.Table.{Conditions, First}
 use Rattle.answer.specs.Answers.{answer, number_of_refusal, answer_of}
 use Rattle.answer.proofs.ByNumber.{first_after}
-use Rattle.answer.proofs.OutcomeLaws.{refusal_some, refused_more, refused_with, refused_leaves, accepted_with, accepted_leaves}
+use Rattle.answer.proofs.OutcomeLaws.{refused_more}
 use Rattle.sheet_theory.specs.Layout.{count_at}
 use Rattle.sheet_theory.specs.Lent.{Lent}
 use Rattle.sheet_theory.specs.Conditions.{sized}
-use Rattle.sheet_theory.proofs.ShapeLaws.{shape_passed, shape_refused, accepted_shape}
+use Rattle.sheet_theory.proofs.ShapeLaws.{refused_answer, refused_after, accepted_answer, accepted_after}
 use Rattle.query_theory.specs.ReachesWithout.{product, reaches_without}
-use Rattle.query_theory.specs.Unrank.{walk, walk_conditions, unrank_conditions, unrank_answer, unrank_after}
+use Rattle.query_theory.specs.Unrank.{walk, walk_conditions, unrank_answer, unrank_after}
 use Rattle.query_theory.proofs.Refusals.{unrank_first}
 use Rattle.query.specs.Internal.{before_walk, IsWalk}
-
--- of a sheet with the shape the number is that of the further conditions
-pub past_shape : (n : ℕ) (s : Lent) (cs : Conditions) (k : ℕ) → First (sized n s []) 0 → First cs k → First (sized n s cs) k
-past_shape n s cs k f g = shape_passed n s (accepted_shape n s [] f) cs k g
 
 -- ---- reaches_without: x is the product, c the count, r whether they differ
 
@@ -42,47 +38,34 @@ pub found_some : {A : Type 0} (w : Option A) (x : Refusal) (a : A) (P : Type 0) 
 found_some None x a P Q m q = absurd (grind arith)
 found_some (Some b) x a P Q m q = grind arith
 
--- ---- unrank of the buffer p: what is refused leaves it, and an accepted walk stands in its first places
+-- ---- unrank of the buffer p, past the shape: what is refused leaves it, and an accepted walk stands in its first places
 
-module _ (n : ℕ) (s : Lent) (i j k : ℕ) (p : List ℕ) where
-  abbrev conditions : Conditions
-  conditions = unrank_conditions n s i j k (length p)
+module _ (n : ℕ) (s : Lent) (i j k : ℕ) (p : List ℕ) (f : First (sized n s []) 0) where
+  abbrev first_checks : Conditions
+  first_checks = before_walk n s i j k (length p)
 
-  unrank_refused : (o : Result ℕ Refusal) (e : Refusal) → o ≡ Err e → First conditions (number_of_refusal e)
+  unrank_refused : (o : Result ℕ Refusal) (e : Refusal) → o ≡ Err e → First (first_checks ++ walk_conditions n s i j k) (number_of_refusal e)
       → (answer_of o ≡ unrank_answer n s i j k (length p)) × (p ≡ unrank_after n s i j k p)
-  unrank_refused o e eo f =
-      let first = unrank_first n s i j k (length p) in
-      (refused_with conditions _ first _ o e eo f, refused_leaves conditions _ first (written (walk n s.words i j k) p) p e f)
+  unrank_refused o e eo h = let u = unrank_first n s i j k (length p) in (refused_answer u f e h _ o eo, refused_after u f e h _ p)
 
-  -- by the check of the sheet
-  pub unrank_unsized : (o : Result ℕ Refusal) (e : Refusal) → o ≡ Err e → First (sized n s []) (number_of_refusal e)
+  -- by what is looked for before the walk
+  pub unrank_stops : (o : Result ℕ Refusal) (e : Refusal) → o ≡ Err e → First first_checks (number_of_refusal e)
       → (answer_of o ≡ unrank_answer n s i j k (length p)) × (p ≡ unrank_after n s i j k p)
-  unrank_unsized o e eo f = unrank_refused o e eo (shape_refused n s _ f (refusal_some e) (before_walk n s i j k (length p) ++ walk_conditions n s i j k))
+  unrank_stops o e eo g = unrank_refused o e eo (refused_more first_checks (walk_conditions n s i j k) e g)
 
-  module _ (f : First (sized n s []) 0) where
-    -- by what is looked for before the walk
-    pub unrank_stops : (o : Result ℕ Refusal) (e : Refusal) → o ≡ Err e → First (before_walk n s i j k (length p)) (number_of_refusal e)
+  module _ (g : First first_checks 0) where
+    past_checks : (x : ℕ) → First (walk_conditions n s i j k) x → First (first_checks ++ walk_conditions n s i j k) x
+    past_checks x h = first_after first_checks (walk_conditions n s i j k) 0 x refl g refl h
+
+    pub unrank_astray : (o : Result ℕ Refusal) → o ≡ Err NotValid → walk n s.words i j k ≡ []
         → (answer_of o ≡ unrank_answer n s i j k (length p)) × (p ≡ unrank_after n s i j k p)
-    unrank_stops o e eo g =
-        unrank_refused o e eo
-        (past_shape n s (before_walk n s i j k (length p) ++ walk_conditions n s i j k) _ f
-        (refused_more (before_walk n s i j k (length p)) (walk_conditions n s i j k) e g))
+    unrank_astray o eo e = unrank_refused o NotValid eo (past_checks 9 (inl (e, refl)))
 
-    module _ (g : First (before_walk n s i j k (length p)) 0) where
-      past_checks : (x : ℕ) → First (walk_conditions n s i j k) x → First conditions x
-      past_checks x h =
-          past_shape n s (before_walk n s i j k (length p) ++ walk_conditions n s i j k) x f
-          (first_after (before_walk n s i j k (length p)) (walk_conditions n s i j k) 0 x refl g refl h)
-
-      pub unrank_astray : (o : Result ℕ Refusal) → o ≡ Err NotValid → walk n s.words i j k ≡ []
-          → (answer_of o ≡ unrank_answer n s i j k (length p)) × (p ≡ unrank_after n s i j k p)
-      unrank_astray o eo e = unrank_refused o NotValid eo (past_checks 9 (inl (e, refl)))
-
-      pub unrank_arrived : (l q : List ℕ) → IsWalk n s.words i j k l → q ≡ written l p
-          → (answer 0 0 (length l) ≡ unrank_answer n s i j k (length p)) × (q ≡ unrank_after n s i j k p)
-      unrank_arrived l q w eq =
-          let first = unrank_first n s i j k (length p) in
-          let here : First conditions 0 = past_checks 0 (inr ((λ e. omega (arith, w.some, ap length (w.is ∙ e))), refl)) in (
-            accepted_with conditions _ first _ _ here (ap length w.is),
-            accepted_leaves conditions _ first (written (walk n s.words i j k) p) p q here (eq ∙ ap (λ (x : List ℕ). written x p) w.is),
-          )
+    pub unrank_arrived : (l q : List ℕ) → IsWalk n s.words i j k l → q ≡ written l p
+        → (answer 0 0 (length l) ≡ unrank_answer n s i j k (length p)) × (q ≡ unrank_after n s i j k p)
+    unrank_arrived l q w eq =
+        let u = unrank_first n s i j k (length p) in
+        let here : First (first_checks ++ walk_conditions n s i j k) 0 = past_checks 0 (inr ((λ e. omega (arith, w.some, ap length (w.is ∙ e))), refl)) in (
+          accepted_answer u f here _ _ (ap length w.is),
+          accepted_after u f here _ p q (eq ∙ ap (λ (x : List ℕ). written x p) w.is),
+        )

@@ -5,13 +5,15 @@ use Rattle.sheet_theory.specs.Layout.{count_at, edge_at}
 use Rattle.sheet_theory.specs.Lent.{Lent}
 use Rattle.sheet_theory.specs.Conditions.{vertex_conditions}
 use Rattle.query.specs.declared.walk.Next.{Next}
+use Rattle.query.specs.declared.without.WithoutEdge.{WithoutEdge}
 use Rattle.query_theory.specs.Walk.{goes, passes, tried}
 use Rattle.query_theory.specs.ReachesWithout.{edge_conditions}
 use Rattle.query_theory.specs.Unrank.{walk, buffer_conditions}
 
 -- what is looked for before the product of an edge, past the shape of the sheet: 3, 7
-abbrev pub without_conditions : ℕ → Lent → ℕ → ℕ → ℕ → ℕ → Conditions
-without_conditions n s i j u v = vertex_conditions n i j (vertex_conditions n u v (edge_conditions n s u v))
+abbrev pub without_conditions : ℕ → Lent → WithoutEdge → Conditions
+without_conditions n s w =
+    vertex_conditions n w.from w.to (vertex_conditions n w.edge_from w.edge_to (edge_conditions n s w.edge_from w.edge_to))
 
 -- what is looked for before a walk, past the shape of the sheet: 3, 10, 11
 abbrev pub before_walk : ℕ → Lent → ℕ → ℕ → ℕ → ℕ → Conditions

@@ -1,34 +1,15 @@
-// The checks of the questions past that of the sheet, in the order of document 01's table.
+// What is looked for before a walk and before a rank, past the shape of the sheet, in the order of document 01's table.
 ghost use Rattle.std.specs.Prelude.{◌≡◌, ◌<◌};
 ghost use Rattle.answer.specs.Answers.{number_of};
 ghost use Rattle.answer.specs.Table.{First, Reflects};
 ghost use Rattle.sheet_theory.specs.Lent.{lent};
 ghost use Rattle.query_theory.specs.Rank.{SomeNoVertex, Broken, path_conditions};
-ghost use Rattle.query.specs.Internal.{Vertices, without_conditions, before_walk};
+ghost use Rattle.query.specs.Internal.{Vertices, before_walk};
 
 use sheet::{Refusal, View};
 
-// Whether a path without an edge may be asked for, or why not: 3, 7.
-pub(crate) fn without(
-    sheet: View,
-    from: usize,
-    to: usize,
-    edge_from: usize,
-    edge_to: usize,
-) -> Result<(), Refusal>
-    ensures { First (without_conditions sheet.entry.n (lent sheet.entry.words.now) from to edge_from edge_to) (number_of result) }
-{
-    if sheet.n <= from.max(to).max(edge_from.max(edge_to)) {
-        return Err(Refusal::Vertex);
-    }
-    if !sheet.has_edge(edge_from, edge_to) {
-        return Err(Refusal::Absent);
-    }
-    Ok(())
-}
-
 // Whether a path of the rank k may be asked for, or why not: 3, 10, 11.
-pub(crate) fn before_walk(
+pub(crate) fn check_walk(
     sheet: View,
     from: usize,
     to: usize,
@@ -77,7 +58,7 @@ fn is_broken(sheet: View, path: &[u8]) -> bool
 }
 
 // Whether the rank of a path may be asked for, or why not: 3, 12.
-pub(crate) fn path(sheet: View, path: &[u8]) -> Result<(), Refusal>
+pub(crate) fn check_path(sheet: View, path: &[u8]) -> Result<(), Refusal>
     ensures { First (path_conditions sheet.entry.n (lent sheet.entry.words.now) path.now) (number_of result) }
 {
     if has_no_vertex(sheet.n, path) {

@@ -5,23 +5,17 @@
 ghost use Rattle.std.specs.Prelude.{◌≡◌, ◌<◌, length};
 ghost use Rattle.answer.specs.Answers.{answer_of};
 ghost use Rattle.sheet_theory.specs.Lent.{lent};
-ghost use Rattle.query_theory.specs.ReachesWithout.{product, reaches_without_answer};
+ghost use Rattle.query_theory.specs.ReachesWithout.{reaches_without_answer};
 ghost use Rattle.query_theory.specs.Unrank.{unrank_answer, unrank_after};
 ghost use Rattle.query_theory.specs.Rank.{rank_answer};
-
-use sheet::{Answer, Refusal, Sheet, View};
 
 mod checks;
 mod passed;
 mod walk;
+mod without;
 
-// The product of the counts to an edge and from it, modulo 2^64; on a valid sheet, the number of paths that use the edge.
-fn product(sheet: View, from: usize, to: usize, edge_from: usize, edge_to: usize) -> u64
-    requires { (from < sheet.n) × (to < sheet.n) × (edge_from < sheet.n) × (edge_to < sheet.n) }
-    ensures { result ≡ product sheet.entry.n sheet.entry.words.now from to edge_from edge_to }
-{
-    word::wrapping_mul(sheet.count(from, edge_from), sheet.count(edge_to, to))
-}
+use sheet::{Answer, Refusal, Sheet, View};
+use without::WithoutEdge;
 
 // Whether the product of the counts to an edge and from it differs from the count between two vertices; on a valid sheet, whether
 // there is a path between them that does not use the edge (document 01: supply without a pipe).
@@ -36,24 +30,22 @@ pub fn reaches_without(
 ) -> Answer
     ensures answer { result ≡ reaches_without_answer n (lent sheet.now) from to edge_from edge_to }
 {
-    product_differs(n, sheet, from, to, edge_from, edge_to).into()
+    let asked = WithoutEdge {
+        from,
+        to,
+        edge_from,
+        edge_to,
+    };
+    product_differs(n, sheet, asked).into()
 }
 
 // The work of `reaches_without`.
-fn product_differs(
-    n: usize,
-    sheet: &[u64],
-    from: usize,
-    to: usize,
-    edge_from: usize,
-    edge_to: usize,
-) -> Result<u64, Refusal>
-    ensures { answer_of result ≡ reaches_without_answer n (lent sheet.now) from to edge_from edge_to }
+fn product_differs(n: usize, sheet: &[u64], asked: WithoutEdge) -> Result<u64, Refusal>
+    ensures { answer_of result ≡ reaches_without_answer n (lent sheet.now) asked.from asked.to asked.edge_from asked.edge_to }
 {
     let sheet = View::of(n, sheet)?;
-    checks::without(sheet, from, to, edge_from, edge_to)?;
-    let product = product(sheet, from, to, edge_from, edge_to);
-    Ok(u64::from(product != sheet.count(from, to)))
+    asked.check(sheet)?;
+    Ok(u64::from(asked.product(sheet) != sheet.count(asked.from, asked.to)))
 }
 
 // The walk from one vertex to another by the rank k, written to the first bytes of `path`, one byte a vertex (document 01: a
@@ -79,7 +71,7 @@ fn write_walk(
     ensures bytes { path.new ≡ unrank_after n (lent sheet.now) from to k path.old }
 {
     let sheet = View::of(n, sheet)?;
-    checks::before_walk(sheet, from, to, k, path.len())?;
+    checks::check_walk(sheet, from, to, k, path.len())?;
     let mut aside = [0u8; Sheet::VERTICES];
     let walk = walk::walk_aside(sheet, from, to, k, &mut aside).ok_or(Refusal::NotValid)?;
     path[..walk.len()].copy_from_slice(walk);
@@ -101,6 +93,6 @@ fn rank_of_path(n: usize, sheet: &[u64], path: &[u8]) -> Result<u64, Refusal>
     ensures { answer_of result ≡ rank_answer n (lent sheet.now) path.now }
 {
     let sheet = View::of(n, sheet)?;
-    checks::path(sheet, path)?;
+    checks::check_path(sheet, path)?;
     Ok(passed::path_rank(sheet, path))
 }

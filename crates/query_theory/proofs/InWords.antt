@@ -96,7 +96,7 @@ module _ (n : ℕ) (s : Lent) where
         × (r.number ≡ 0 → ((¬ (count i u * count v j % 2 ^ 64 ≡ count i j)) × (r.value ≡ 1)) ⊎ ((count i u * count v j % 2 ^ 64 ≡ count i j) × (r.value ≡ 0)))
         × (¬ (r.number ≡ 0) → r.value ≡ 0)
     reaches_without_words = (
-      first_under (sized n s []) (vertex_conditions n i j (vertex_conditions n u v there)) (named there) _ (four there _) (reaches_without_first n s i j u v),
+      first_under (sized n s []) (vertex_conditions n i j (vertex_conditions n u v there)) (named there) _ (four there _) (reaches_without_first n s i j u v).first,
       refl,
       λ z. let e = decided_new _ (reaches_without n s i j u v) 0 z in elim differs [ inl d ↦ inl (d.0, e ∙ d.1) | inr d ↦ inr (d.0, e ∙ d.1) ],
       decided_old _ _ 0,
@@ -176,7 +176,7 @@ module _ (n : ℕ) (s : Lent) where
           × (r.place ≡ 0)
           × (r.number ≡ 0 → r.value ≡ length p)
           × (¬ (r.number ≡ 0) → r.value ≡ 0)
-      unrank_words = (unrank_first n s i j k (length before), refl, decided_new _ _ 0, decided_old _ _ 0)
+      unrank_words = ((unrank_first n s i j k (length before)).first, refl, decided_new _ _ 0, decided_old _ _ 0)
 
       -- the walk fills the first places of the buffer, and the rest are unchanged; a refusal changes none
       pub unrank_leaves_words :
@@ -263,7 +263,7 @@ module _ (n : ℕ) (s : Lent) where
         × (r.number ≡ 0 → r.value ≡ sum (length p - 1) (λ x. sum (at (suc x)) (λ b. edge (at x) b * count b last)) % 2 ^ 64)
         × (¬ (r.number ≡ 0) → r.value ≡ 0)
     rank_words = (
-      first_under (sized n s []) (path_conditions n s p) given _ (given_first _) (rank_first n s p),
+      first_under (sized n s []) (path_conditions n s p) given _ (given_first _) (rank_first n s p).first,
       refl,
       λ z.
           decided_new _ _ 0 z
@@ -274,7 +274,7 @@ module _ (n : ℕ) (s : Lent) where
     -- on a valid sheet it is the rank
     pub rank_valid_words : Valid n s → let r = rank_answer n s p in r.number ≡ 0 → Ranked (at 0) last r.value p
     rank_valid_words valid z =
-        let f = subst (First (rank_conditions n s p)) z (rank_first n s p) in
+        let f = subst (First (rank_conditions n s p)) z (rank_first n s p).first in
         let h : IsPath n edge (at 0) last p
         = subst (λ j. IsPath n edge (at 0) j p) (end_places p)
         (unbroken_path valid p (first_not (rank_conditions n s p) 0 f 3 refl) (first_not (rank_conditions n s p) 0 f 12 refl)) in

@@ -162,10 +162,10 @@ module _ (n : ℕ) (s : Lent) (valid : Valid n s) where
         (reaches_without_table n s i j u v 0).1 (shape_passed n s valid.shape (vertex_conditions n i j (vertex_conditions n u v cs)) 0 f)
 
     equal_no : product n s.words i j u v ≡ count_at n s.words i j → reaches_without_answer n s i j u v ≡ answer 0 0 0
-    equal_no e = sym (without_no n s i j u v _ (reaches_without_first n s i j u v) reaches_without_accepted _ _ refl refl e _ refl)
+    equal_no e = sym (without_no n s i j u v _ (reaches_without_first n s i j u v).first reaches_without_accepted _ _ refl refl e _ refl)
 
     differs_yes : ¬ (product n s.words i j u v ≡ count_at n s.words i j) → reaches_without_answer n s i j u v ≡ answer 0 0 1
-    differs_yes d = sym (without_yes n s i j u v _ (reaches_without_first n s i j u v) reaches_without_accepted _ _ refl refl d _ refl)
+    differs_yes d = sym (without_yes n s i j u v _ (reaches_without_first n s i j u v).first reaches_without_accepted _ _ refl refl d _ refl)
 
     -- REACHES WITHOUT: the answer is yes exactly if there is a path without the edge, and no exactly if there is none
     pub reaches_without_iff : ((reaches_without_answer n s i j u v ≡ answer 0 0 1) ↔ PathWithout n s i j u v)
@@ -199,7 +199,7 @@ module _ (n : ℕ) (s : Lent) (valid : Valid n s) where
     pub unrank_beyond_iff : n ≤ len → (c : ℕ) → PathsExactly n (edge_at s.words) i j c → ((unrank_answer n s i j k len).number ≡ 11) ↔ (c < k + 1)
     unrank_beyond_iff room c x =
         let e : c ≡ count_at n s.words i j = exactly_only x (valid.counts i j hi hj) in
-        let f = shape_rest n s valid.shape (vertex_conditions n i j past) _ (unrank_first n s i j k len) in
+        let f = shape_rest n s valid.shape (vertex_conditions n i j past) _ (unrank_first n s i j k len).first in
         let r = first_when (vertex_conditions n i j past) _ 11 f (vertices, ((λ l. omega arith), tt)) refl in
         (λ q. omega (arith, r.0 q), λ h. r.1 (omega arith))
 

@@ -15,7 +15,7 @@ use Rattle.sheet_theory.specs.Layout.{edge_at}
 use Rattle.sheet_theory.specs.Lent.{Lent, mult_at}
 use Rattle.sheet_theory.specs.Conditions.{NoVertex, vertex_conditions, vertex_tests, sized, sized_tests}
 use Rattle.answer.proofs.TableLaws.{Agree, reflects_none, reflects_iff, reflects_or, reflects_lt, reflects_le, reflects_eq, first_true_lem, first_iff}
-use Rattle.sheet_theory.proofs.ShapeLaws.{sized_agree, vertices_agree}
+use Rattle.sheet_theory.proofs.ShapeLaws.{Sized, sized_agree, vertices_agree}
 use Rattle.answer.proofs.AnswerLaws.{answered_not, decided_old}
 use Rattle.query_theory.specs.ReachesWithout.{edge_conditions, edge_tests, reaches_without_conditions, reaches_without_number, reaches_without_answer}
 use Rattle.query_theory.specs.Unrank.{walk, buffer_conditions, buffer_tests, walk_conditions, walk_tests, unrank_conditions, unrank_number, unrank_answer, unrank_after}
@@ -60,35 +60,37 @@ broken_reflects n s p = reflects_or (reflects_eq (length p) 0) (reflects_or (ref
 
 module _ (n : ℕ) (s : Lent) where
   -- the number of a call whose tests past the shape decide its conditions
-  past_shape : (cs : Conditions) (ts : Tests) → Agree cs ts → First (sized n s cs) (first_true (sized_tests n s ts))
-  past_shape cs ts a = first_true_lem (sized n s cs) (sized_tests n s ts) (sized_agree n s cs ts (λ h. a))
+  past_shape : (cs : Conditions) (ts : Tests) → Agree cs ts → Sized n s cs (first_true (sized_tests n s ts))
+  past_shape cs ts a = record { first = first_true_lem (sized n s cs) (sized_tests n s ts) (sized_agree n s cs ts (λ h. a)) }
 
-  pub reaches_without_first : (i j u v : ℕ) → First (reaches_without_conditions n s i j u v) (reaches_without_number n s i j u v)
+  pub reaches_without_first : (i j u v : ℕ)
+      → Sized n s (vertex_conditions n i j (vertex_conditions n u v (edge_conditions n s u v))) (reaches_without_number n s i j u v)
   reaches_without_first i j u v =
       let cs : Conditions = edge_conditions n s u v in
       let ts : Tests = edge_tests n s u v in
       past_shape (vertex_conditions n i j (vertex_conditions n u v cs)) (vertex_tests n i j (vertex_tests n u v ts))
       (vertices_agree n i j (vertex_conditions n u v cs) (vertex_tests n u v ts) (vertices_agree n u v cs ts (reflects_eq (mult_at n s u v) 0, refl, λ d. tt)))
 
-  pub unrank_first : (i j k len : ℕ) → First (unrank_conditions n s i j k len) (unrank_number n s i j k len)
+  pub unrank_first : (i j k len : ℕ)
+      → Sized n s (vertex_conditions n i j (buffer_conditions n s i j k len (walk_conditions n s i j k))) (unrank_number n s i j k len)
   unrank_first i j k len =
       let cs : Conditions = buffer_conditions n s i j k len (walk_conditions n s i j k) in
       let ts : Tests = buffer_tests n s i j k len (walk_tests n s i j k) in
       past_shape (vertex_conditions n i j cs) (vertex_tests n i j ts)
       (vertices_agree n i j cs ts (reflects_lt len n, refl, λ p. (reflects_le _ _, refl, λ q. (empty_reflects (walk n s.words i j k), refl, λ r. tt))))
 
-  pub rank_first : (p : List ℕ) → First (rank_conditions n s p) (rank_number n s p)
+  pub rank_first : (p : List ℕ) → Sized n s (path_conditions n s p) (rank_number n s p)
   rank_first p =
       past_shape (path_conditions n s p) (path_tests n s p) (some_no_vertex_reflects n p, refl, λ d. (broken_reflects n s.words p, refl, λ r. tt))
 
   pub reaches_without_table : (i j u v k : ℕ) → ((reaches_without_answer n s i j u v).number ≡ k) ↔ First (reaches_without_conditions n s i j u v) k
-  reaches_without_table i j u v k = first_iff (reaches_without_conditions n s i j u v) _ k (reaches_without_first i j u v)
+  reaches_without_table i j u v k = first_iff (reaches_without_conditions n s i j u v) _ k (reaches_without_first i j u v).first
 
   pub unrank_table : (i j k len m : ℕ) → ((unrank_answer n s i j k len).number ≡ m) ↔ First (unrank_conditions n s i j k len) m
-  unrank_table i j k len m = first_iff (unrank_conditions n s i j k len) _ m (unrank_first i j k len)
+  unrank_table i j k len m = first_iff (unrank_conditions n s i j k len) _ m (unrank_first i j k len).first
 
   pub rank_table : (p : List ℕ) (k : ℕ) → ((rank_answer n s p).number ≡ k) ↔ First (rank_conditions n s p) k
-  rank_table p k = first_iff (rank_conditions n s p) _ k (rank_first p)
+  rank_table p k = first_iff (rank_conditions n s p) _ k (rank_first p).first
 
 -- ---- a refusal has the value 0
 

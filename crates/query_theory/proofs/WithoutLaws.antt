@@ -15,7 +15,7 @@ use Rattle.query_theory.proofs.Refusals.{reaches_without_first}
 module _ (n : ℕ) (s : Lent) (i j u v k : ℕ) (f : First (reaches_without_conditions n s i j u v) k) where
   module _ (z : k ≡ 0) (x c : ℕ) (ex : x ≡ product n s.words i j u v) (ec : c ≡ count_at n s.words i j) where
     accepted : (r : Answer) → r ≡ answer 0 0 (reaches_without n s i j u v) → r ≡ reaches_without_answer n s i j u v
-    accepted r er = (accepted_as (reaches_without_conditions n s i j u v) k _ f (reaches_without_first n s i j u v) s s s _ r z er refl).0
+    accepted r er = (accepted_as (reaches_without_conditions n s i j u v) k _ f (reaches_without_first n s i j u v).first s s s _ r z er refl).0
 
     pub without_no : x ≡ c → (r : Answer) → r ≡ answer 0 0 0 → r ≡ reaches_without_answer n s i j u v
     unfolding reaches_without

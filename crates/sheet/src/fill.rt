@@ -7,6 +7,7 @@ ghost use Rattle.sheet.specs.Internal.{diagonal_at};
 use crate::layout;
 
 // 1 at each count from a vertex to itself.
+#[tactic(auto, using(crate::proofs::FillLaws::puts_none, crate::proofs::FillLaws::puts_more))]
 fn diagonal(n: usize, sheet: &mut [u64])
     requires { Shape n sheet.old }
     ensures { sheet.new ≡ puts sheet.old (diagonal_at n) (λ (k : ℕ). 1) n }

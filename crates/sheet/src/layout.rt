@@ -38,6 +38,7 @@ impl Sheet {
 }
 
 // Internal: where the counts end.
+#[tactic(auto, using(sheet_theory::proofs::LayoutLaws::counts_le))]
 pub fn counts_end(n: usize) -> usize
     requires { n ≤ most_vertices }
     ensures { result ≡ counts_end n }

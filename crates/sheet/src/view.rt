@@ -49,6 +49,7 @@ impl<'a> View<'a> {
     }
 
     // Internal: row i.
+    #[tactic(auto, using(sheet_theory::proofs::LayoutLaws::rows_within))]
     pub fn row(self, i: usize) -> u64
         requires { i < self.n }
         ensures { result ≡ row_at self.entry.words.now i }
@@ -57,6 +58,7 @@ impl<'a> View<'a> {
     }
 
     // Internal: whether there is an edge from vertex i to vertex j.
+    #[tactic(auto, using(sheet_theory::proofs::LayoutLaws::rows_within))]
     pub fn has_edge(self, i: usize, j: usize) -> bool
         requires { (i < self.n) × (j < self.n) }
         ensures { result ≡ has_bit (row_at self.entry.words.now i) j }
@@ -90,6 +92,7 @@ impl<'a> View<'a> {
     }
 
     // Internal: whether a row has a bit at n or above.
+    #[tactic(auto, using(crate::proofs::SliceLaws::rows_taken))]
     pub fn has_stray_row(self) -> bool
         ensures { Reflects result (StrayRow self.entry.n self.entry.words.now) }
     {
@@ -102,6 +105,7 @@ impl<'a> View<'a> {
     }
 
     // Internal: the set bits of all rows.
+    #[tactic(auto, using(crate::proofs::SliceLaws::rows_taken))]
     pub fn set_bits(self) -> u64
         ensures { result ≡ set_bits self.entry.n self.entry.words.now }
     {
@@ -114,6 +118,7 @@ impl<'a> View<'a> {
 
     // Internal: the counts from the vertices of the mask to the w columns from c on, combined with the first w words of t: added up, or
     // taken off.
+    // A mask has no type of its own: that would have to hold n, and each contract would say `mask.n ≡ sheet.n` in place of `mask < 2 ^ n`.
     pub fn combine_counts<C: Combine>(self, c: usize, w: usize, mask: u64, t: &mut [u64])
         requires { (c + w ≤ self.n) × (mask < 2 ^ self.n) × (w ≤ length t.old) }
         ensures { SumsBy C.op self.entry.n self.entry.words.now c w mask t.old t.new self.entry.n }

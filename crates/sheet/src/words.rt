@@ -15,6 +15,7 @@ pub fn copy_words(count: usize, from: &[u64], to: &mut [u64], base: usize)
 }
 
 // Internal: each of some words combined with the word of t at its place: added to it, or taken off it, modulo 2^64.
+#[tactic(auto, using(crate::proofs::FillLaws::puts_none, crate::proofs::WordsLaws::combined_more))]
 pub fn combine_words<C: Combine>(words: &[u64], t: &mut [u64])
     requires { length words.now ≤ length t.old }
     ensures { t.new ≡ combined C.op (length words.now) words.now t.old }

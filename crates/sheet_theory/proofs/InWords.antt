@@ -85,7 +85,7 @@ module _ (n : ℕ) (s : Lent) where
 
   -- the empty sheet: the value is 0, and what is left is a valid sheet whose rows are 0
   pub empty_words : First (every []) (empty_answer n s).number
-  empty_words = altering_words [] _ (empty_first n s)
+  empty_words = altering_words [] _ (empty_first n s).first
 
   pub empty_leaves_words : (empty_answer n s).number ≡ 0
       → ((empty_answer n s).value ≡ 0) × Valid n (empty_after n s) × ((i : ℕ) → i < n → get_or (empty_after n s).words i 0 ≡ 0)
@@ -97,7 +97,7 @@ module _ (n : ℕ) (s : Lent) where
 
   -- the count from i to j: the word where it stands
   pub path_count_words : (i j : ℕ) → First (every (((n ≤ i) ⊎ (n ≤ j)) gives 3 ∷ [])) (path_count_answer n s i j).number
-  path_count_words i j = sized_words (vertex_conditions n i j []) _ (path_count_first n s i j)
+  path_count_words i j = sized_words (vertex_conditions n i j []) _ (path_count_first n s i j).first
 
   pub path_count_value_words : (i j : ℕ) → (path_count_answer n s i j).number ≡ 0 → (path_count_answer n s i j).value ≡ count n s i j
   path_count_value_words i j z = decided_new (path_count_number n s i j) (count n s i j) 0 z

@@ -1,5 +1,5 @@
--- The laws of the checks that every call makes first: 1, n is not 1 to 64; 2, the sheet isn't n + n × n words; and of the check of
--- two vertices: 3, one of them is n or more. Assumes nothing.
+-- The laws of the checks that every call makes first: 1, n is not 1 to 64; 2, the sheet isn't n + n × n words; of the check of two
+-- vertices: 3, one of them is n or more; and of what a call answers and leaves, by what these checks gave. Assumes nothing.
 use mathlib.Core.Path.{◌≡◌, refl, sym, ◌∙◌}
 use mathlib.Core.Logic.{inl, inr}
 use mathlib.Core.Bool.{◌||◌}
@@ -10,12 +10,16 @@ use native.Mathlib.Decide.{dec_lt, ℕ_discrete}
 use native.Mathlib.Omega.{arith}
 use lib.Dec.{ltb}
 use lib.ListN.{length}
+use Rattle.std.proofs.Common.{Result, Err}
+use Rattle.answer.specs.declared.Refusal.{Refusal}
 use Rattle.answer.specs.Table.{Conditions, First, Tests, Reflects}
+use Rattle.answer.specs.Answers.{answer, decided, answered, number_of_refusal, answer_of}
 use Rattle.sheet_theory.specs.Layout.{size}
 use Rattle.sheet_theory.specs.Lent.{Lent, Lends}
 use Rattle.sheet_theory.specs.Conditions.{BadVertices, BadLength, length_test, vertex_conditions, vertex_tests, sized, sized_tests}
-use Rattle.answer.proofs.TableLaws.{Agree, reflects_or, reflects_not, reflects_lt, reflects_le, reflects_eq, first_rest, first_more}
-use Rattle.answer.proofs.ByNumber.{first_not, first_after}
+use Rattle.answer.proofs.TableLaws.{Agree, reflects_or, reflects_not, reflects_lt, reflects_le, reflects_eq, first_only, first_rest, first_more}
+use Rattle.answer.proofs.ByNumber.{first_not}
+use Rattle.answer.proofs.OutcomeLaws.{refusal_some, refused_with, refused_leaves, accepted_with, accepted_leaves}
 
 -- whether a sheet has the number of words
 pub length_test_lem : (n : ℕ) (s : Lent) → Reflects (length_test n s) (BadLength n s)
@@ -98,8 +102,43 @@ module _ (n i j : ℕ) where
       let r = first_not (vertex_conditions n i j cs) 0 f 3 refl in
       (lt_of_not-le (λ l. r (inl l)), lt_of_not-le (λ l. r (inr l)))
 
--- ---- both checks, one after the other
+-- ---- the ways out of a call
 
-module _ (n : ℕ) (s : Lent) (i j : ℕ) where
-  pub vertices_then : (k m : ℕ) → First (sized n s []) k → k ≡ 0 → First (vertex_conditions n i j []) m → First (sized n s (vertex_conditions n i j [])) m
-  vertices_then k m f z g = first_after (sized n s []) (vertex_conditions n i j []) k m refl f z g
+-- m is the number of a call that looks for cs past the shape of its sheet
+pub record Sized (n : ℕ) (s : Lent) (cs : Conditions) (m : ℕ) : Type 0 where
+  pub first : First (sized n s cs) m
+
+module _ {n : ℕ} {s : Lent} {cs : Conditions} {m : ℕ} (g : Sized n s cs m) where
+  -- refused by the check of the shape
+  module _ (e : Refusal) (f : First (sized n s []) (number_of_refusal e)) where
+    by_shape : First (sized n s cs) (number_of_refusal e)
+    by_shape = shape_refused n s (number_of_refusal e) f (refusal_some e) cs
+
+    pub unsized_answer : (v : ℕ) (o : Result ℕ Refusal) → o ≡ Err e → answer_of o ≡ answered m v
+    unsized_answer v o eo = refused_with (sized n s cs) m g.first v o e eo by_shape
+
+    pub unsized_after : {A : Type 0} (new old : A) → old ≡ decided m new old
+    unsized_after new old = refused_leaves (sized n s cs) m g.first new old e by_shape
+
+  -- or past it
+  module _ (f : First (sized n s []) 0) where
+    past : (k : ℕ) → First cs k → First (sized n s cs) k
+    past k h = shape_passed n s (accepted_shape n s [] f) cs k h
+
+    pub number_past : (k : ℕ) → First cs k → k ≡ m
+    number_past k h = first_only (sized n s cs) k m (past k h) g.first
+
+    module _ (e : Refusal) (h : First cs (number_of_refusal e)) where
+      pub refused_answer : (v : ℕ) (o : Result ℕ Refusal) → o ≡ Err e → answer_of o ≡ answered m v
+      refused_answer v o eo = refused_with (sized n s cs) m g.first v o e eo (past _ h)
+
+      pub refused_after : {A : Type 0} (new old : A) → old ≡ decided m new old
+      refused_after new old = refused_leaves (sized n s cs) m g.first new old e (past _ h)
+
+    -- or accepted
+    module _ (h : First cs 0) where
+      pub accepted_answer : (v x : ℕ) → x ≡ v → answer 0 0 x ≡ answered m v
+      accepted_answer v x ex = accepted_with (sized n s cs) m g.first v x (past 0 h) ex
+
+      pub accepted_after : {A : Type 0} (new old t : A) → t ≡ new → t ≡ decided m new old
+      accepted_after new old t et = accepted_leaves (sized n s cs) m g.first new old t (past 0 h) et

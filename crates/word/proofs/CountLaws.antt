@@ -69,7 +69,7 @@ bit_count_low n h = sym (bit_count_ones (2 ^ n - 1) (lt_of_lt_of_le (ones_lt n) 
 -- ---- the lowest bit that is set
 
 pub lowest_trailing : (x : ℕ) → 0 < x → x < 2 ^ 64 → Lowest x (count_trailing_zeros 64 x)
-lowest_trailing x p h = let t = trailing_lowest 64 x p h in record { within = t.0; set = t.1; least = t.2 }
+lowest_trailing x p h = let t = trailing_lowest 64 x p h in record { within = t.0; set = t.1; least = t.2; below = λ n h. bit_one_lt n x _ h t.1 }
 
 -- below the leading zeros stands a set bit, and none is above it
 pub highest_leading : (x : ℕ) → 0 < x → x < 2 ^ 64 → Highest x (63 - count_leading_zeros 64 x)
@@ -85,7 +85,7 @@ highest_leading x p h =
 
 -- the lowest bit of a number of n digits is one of them
 pub lowest_lt : (n x b : ℕ) → Lowest x b → x < 2 ^ n → b < n
-lowest_lt n x b l h = bit_one_lt n x b h l.set
+lowest_lt n x b l h = l.below n h
 
 -- with its lowest bit cleared a number falls
 pub lowest_cleared_lt : (x b r : ℕ) → Lowest x b → LowestCleared x r → r < x

@@ -22,6 +22,6 @@ pub count_all : bit_count (2 ^ 64 - 1) ≡ 64
 unfolding bit_count sum
 count_all = refl
 
-pub minus_wraps : minus 1 2 ≡ 2 ^ 64 - 1
+pub minus_below_zero : minus 1 2 ≡ 2 ^ 64 - 1
 unfolding minus
-minus_wraps = refl
+minus_below_zero = refl

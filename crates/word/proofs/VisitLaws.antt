@@ -8,7 +8,6 @@ use Rattle.word.specs.Bit.{bit, Lowest, LowestCleared}
 use Rattle.word.specs.Wrap.{plus}
 use Rattle.word.proofs.BitLaws.{bit_zero, bit_clear_same, bit_clear_other, clear_below}
 use Rattle.word.proofs.MaskLaws.{bit_below}
-use Rattle.word.proofs.CountLaws.{lowest_lt}
 use Rattle.word.specs.Combine.{Wraps, plus_wraps}
 
 -- ---- where a visit stands
@@ -55,7 +54,7 @@ module _ (n mask : ℕ) (P : ℕ → Type 0) where
 
     module _ (b : ℕ) (low : Lowest rest b) where
       within : b < n
-      within = lowest_lt n rest b low was.below
+      within = low.below n was.below
 
       from : was.next ≤ b
       from = elim (dec_lt b was.next) [ yes h ↦ absurd (omega (arith, was.gone b h, low.set)) | no h ↦ omega arith ]

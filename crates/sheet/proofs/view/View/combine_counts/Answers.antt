@@ -1,15 +1,11 @@
 -- `sheet::View::combine_counts` meets its contract: the counts from the lowest vertex that is left are combined. Assumes nothing.
 use Rattle.std.proofs.Common.{◌≤◌, ◌+◌, length, ◌∙◌, arith, rules}
-use Rattle.word.proofs.CountLaws.{lowest_lt}
 use Rattle.sheet.proofs.SliceLaws.{part_long, part_at}
 use Rattle.sheet.proofs.WordsLaws.{block_count, summing_start, summing_next, summing_done}
 use Rattle.sheet.proofs.view.View.combine_counts.Goals as goal
 
 pub loop-b-init : goal.loop-b-init
 loop-b-init g c = search (rules, summing_start g.C.Combine.wraps)
-
-pub counts_start-requires : goal.counts_start-requires
-counts_start-requires g c = lowest_lt _ _ _ c.in-Some.ensures.steps.0 c.loop-b.invariant.below
 
 pub loop-b-preserved : goal.loop-b-preserved
 loop-b-preserved g c =

@@ -1,11 +1,8 @@
 -- `sheet::View::has_stray_row` meets its contract: each way out is a law of StrayLaws. Assumes nothing.
-use Rattle.std.proofs.Common.{◌<◌, sym, get_or-take, arith}
+use Rattle.std.proofs.Common.{◌<◌, get_or-take, arith}
 use Rattle.sheet.proofs.SliceLaws.{rows_taken}
 use Rattle.sheet.proofs.StrayLaws.{stray_found, stray_none}
 use Rattle.sheet.proofs.view.View.has_stray_row.Goals as goal
-
-pub slice_bounds-row-items-end : goal.slice_bounds-row-items-end
-slice_bounds-row-items-end c = sym (rows_taken c.args.self.shape)
 
 pub returns-then-not-within : goal.returns-then-not-within
 returns-then-not-within c =

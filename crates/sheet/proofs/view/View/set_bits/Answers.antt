@@ -1,13 +1,10 @@
 -- `sheet::View::set_bits` meets its contract: the total of a sheet fits a word. Assumes nothing.
-use Rattle.std.proofs.Common.{ℕ, sym, ap, ◌∙◌, get_or-take, arith}
+use Rattle.std.proofs.Common.{ℕ, ap, ◌∙◌, get_or-take, arith}
 use Rattle.word.proofs.CountLaws.{bit_count_le}
 use Rattle.sheet_theory.specs.Layout.{set_bits, row_at}
 use Rattle.sheet_theory.proofs.SetBitsLaws.{set_bits_zero, set_bits_more, set_bits_le}
 use Rattle.sheet.proofs.SliceLaws.{rows_taken}
 use Rattle.sheet.proofs.view.View.set_bits.Goals as goal
-
-pub slice_bounds-row-items-end : goal.slice_bounds-row-items-end
-slice_bounds-row-items-end c = sym (rows_taken c.args.self.shape)
 
 pub loop-row-init : goal.loop-row-init
 loop-row-init c = set_bits_zero _
