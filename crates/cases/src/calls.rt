@@ -1,5 +1,5 @@
 // The public calls, by the lines of the script. The numbers of a line are cast to masks and ranks: from `usize` to `u64` there is no `From`.
-use crate::command::{Command, NUMBERS};
+use crate::command::{Command, NUMBERS, Numbers};
 use crate::fault::Fault;
 use crate::lent::Lent;
 use crate::show;
@@ -7,7 +7,7 @@ use arrayvec::ArrayVec;
 use sheet::{Answer, Sheet};
 
 // The answer of a call that may write words.
-fn edit(call: &Command<'_>, lent: &mut Lent) -> Option<Answer> {
+fn edit(call: Command<'_>, lent: &mut Lent) -> Option<Answer> {
     let (n, words) = (lent.vertices, lent.words.as_mut_slice());
     Some(match call.parts() {
         (b"empty", []) => sheet::empty(n, words),
@@ -35,7 +35,7 @@ fn rank(n: usize, words: &[u64], vertices: &[usize]) -> Result<Answer, Fault> {
 }
 
 // The answer of a call that writes no word, of the sheet of these words.
-fn ask(call: &Command<'_>, n: usize, words: &[u64], bytes: &mut [u8]) -> Result<Answer, Fault> {
+fn ask(call: Command<'_>, n: usize, words: &[u64], bytes: &mut [u8]) -> Result<Answer, Fault> {
     Ok(match call.parts() {
         (b"path_count", &[from, to]) => sheet::path_count(n, words, from, to),
         (b"validate", []) => recount::validate(n, words),
@@ -53,7 +53,7 @@ fn ask(call: &Command<'_>, n: usize, words: &[u64], bytes: &mut [u8]) -> Result<
 }
 
 // The answer of a call that writes no word, of the lent words.
-fn ask_lent(call: &Command<'_>, lent: &mut Lent) -> Result<Answer, Fault> {
+fn ask_lent(call: Command<'_>, lent: &mut Lent) -> Result<Answer, Fault> {
     ask(
         call,
         lent.vertices,
@@ -66,7 +66,7 @@ fn ask_lent(call: &Command<'_>, lent: &mut Lent) -> Result<Answer, Fault> {
 pub fn shown(
     rt: &impl Print,
     line: &[u8],
-    call: &Command<'_>,
+    call: Command<'_>,
     lent: &mut Lent,
 ) -> Result<(), Fault> {
     let before = lent.words.clone()?;
@@ -81,19 +81,24 @@ pub fn shown(
 }
 
 // A call without its lines.
-pub fn quiet(line: &[u8], lent: &mut Lent) -> Result<(), Fault> {
-    let call = Command::parse(line)?;
-    if edit(&call, lent).is_none() {
-        ask_lent(&call, lent)?;
+pub fn quiet(line: &[u8], room: &mut Numbers, lent: &mut Lent) -> Result<(), Fault> {
+    let call = Command::parse(line, room)?;
+    if edit(call, lent).is_none() {
+        ask_lent(call, lent)?;
     }
     Ok(())
 }
 
 // A call that writes no word, of the sheet that the library makes, with its line.
-pub fn made(rt: &impl Print, line: &[u8], bytes: &mut [u8]) -> Result<(), Fault> {
-    let call = Command::parse(line)?;
+pub fn made(
+    rt: &impl Print,
+    line: &[u8],
+    room: &mut Numbers,
+    bytes: &mut [u8],
+) -> Result<(), Fault> {
+    let call = Command::parse(line, room)?;
     let sheet = Sheet::new();
-    let answer = ask(&call, Sheet::VERTICES, &sheet.words, bytes)?;
+    let answer = ask(call, Sheet::VERTICES, &sheet.words, bytes)?;
     show::answer(rt, line, answer)?;
     Ok(())
 }

@@ -1,10 +1,12 @@
 // The words of a line, and the commands that are a name with numbers.
 use crate::fault::Fault;
 use arrayvec::ArrayVec;
-use sheet::Sheet;
 
-// One vertex more than the longest path has: no line has more numbers.
-pub const NUMBERS: usize = Sheet::VERTICES + 1;
+// The most numbers of a line: with each stands a space, and the whole input is shorter than its buffer.
+pub const NUMBERS: usize = script::INPUT / 2;
+
+// Room for the numbers of a line. It is lent to the commands, so that they are handed on without moving the numbers.
+pub type Numbers = ArrayVec<usize, NUMBERS>;
 
 // Whether a byte stands between two words.
 fn is_space(byte: &u8) -> bool {
@@ -22,27 +24,27 @@ pub fn text(line: &[u8]) -> &[u8] {
 }
 
 // A name, and the numbers after it.
-#[derive(Drop)]
+#[derive(Clone, Copy)]
 pub struct Command<'a> {
     name: &'a [u8],
-    numbers: ArrayVec<usize, NUMBERS>,
+    numbers: &'a [usize],
 }
 
 impl<'a> Command<'a> {
-    // The command of a line whose words after the first are all decimals.
-    pub fn parse(line: &'a [u8]) -> Result<Command<'a>, Fault> {
-        let mut numbers = ArrayVec::new();
+    // The command of a line whose words after the first are all decimals. They are written to the room.
+    pub fn parse(line: &'a [u8], room: &'a mut Numbers) -> Result<Command<'a>, Fault> {
+        room.clear();
         for word in line.split(is_space).skip(1) {
-            numbers.try_push(script::decimal(word).ok_or(Fault::NotACommand)?)?;
+            room.try_push(script::decimal(word).ok_or(Fault::NotACommand)?)?;
         }
         Ok(Command {
             name: name(line),
-            numbers,
+            numbers: room.as_slice(),
         })
     }
 
     // The name and the numbers, to be matched.
-    pub fn parts(&self) -> (&[u8], &[usize]) {
-        (self.name, self.numbers.as_slice())
+    pub fn parts(self) -> (&'a [u8], &'a [usize]) {
+        (self.name, self.numbers)
     }
 }

@@ -2,8 +2,8 @@
 // what the calls answer. The program knows no case and no answer: the cases stand in the file stdin beside it, the answers in stdout.
 //
 // A line of the script is a command, with one space between two words. Numbers are decimal, of 64 bits. A line that is empty or begins
-// with `#` is skipped. One that is no such command, has more than 65 numbers, or has a number that is too great for a buffer, ends the
-// program with a line that says which it is. A script of 65,536 bytes or more is not taken.
+// with `#` is skipped. One that is no such command, or has a number that is too great for a buffer, ends the program with a line that
+// says which it is. A script of 65,536 bytes or more is not taken.
 //
 //     heading TEXT         prints the text
 //     n N                  the number of vertices in the calls from here on
@@ -31,15 +31,20 @@ mod fault;
 mod lent;
 mod show;
 
-use command::Command;
+use command::{Command, Numbers};
 use fault::Fault;
 use lent::Lent;
 use sheet::Sheet;
 use std::io;
 
 // A command that is a name with numbers. Those that are words are cast: from `usize` to `u64` there is no `From`.
-fn obey_command(rt: &impl Print, line: &[u8], lent: &mut Lent) -> Result<(), Fault> {
-    let command = Command::parse(line)?;
+fn obey_command(
+    rt: &impl Print,
+    line: &[u8],
+    room: &mut Numbers,
+    lent: &mut Lent,
+) -> Result<(), Fault> {
+    let command = Command::parse(line, room)?;
     match command.parts() {
         (b"n", &[n]) => lent.vertices = n,
         (b"words", &[count, value]) => lent.lend_words(count, value as u64)?,
@@ -61,38 +66,44 @@ fn obey_command(rt: &impl Print, line: &[u8], lent: &mut Lent) -> Result<(), Fau
                 Sheet::EDGES
             )?
         }
-        _ => calls::shown(rt, line, &command, lent)?,
+        _ => calls::shown(rt, line, command, lent)?,
     }
     Ok(())
 }
 
 // A line of the script obeyed. Text stands after some names; numbers, if any, after the others.
-fn obey(rt: &impl Print, line: &[u8], lent: &mut Lent) -> Result<(), Fault> {
+fn obey(rt: &impl Print, line: &[u8], room: &mut Numbers, lent: &mut Lent) -> Result<(), Fault> {
     let text = command::text(line);
     match command::name(line) {
         b"heading" => show::bytes(rt, text)?,
         b"plan" => lent.lend_plan(text)?,
-        b"quiet" => calls::quiet(text, lent)?,
-        b"made" => calls::made(rt, text, lent.bytes.as_mut_slice())?,
-        _ => obey_command(rt, line, lent)?,
+        b"quiet" => calls::quiet(text, room, lent)?,
+        b"made" => calls::made(rt, text, room, lent.bytes.as_mut_slice())?,
+        _ => obey_command(rt, line, room, lent)?,
     }
     Ok(())
 }
 
 // A piece of the script up to a line feed: its line obeyed, if it is not one to skip. No command is without its line feed.
-fn obey_piece(rt: &impl Print, piece: &[u8], lent: &mut Lent) -> Result<(), Fault> {
+fn obey_piece(
+    rt: &impl Print,
+    piece: &[u8],
+    room: &mut Numbers,
+    lent: &mut Lent,
+) -> Result<(), Fault> {
     match piece.strip_suffix(b"\n") {
         None => Err(Fault::NotACommand),
         Some([] | [b'#', ..]) => Ok(()),
-        Some(line) => obey(rt, line, lent),
+        Some(line) => obey(rt, line, room, lent),
     }
 }
 
 // The lines of a script, obeyed in order, up to the first that is no command.
 fn run(rt: &impl Print, text: &[u8]) -> io::Result<()> {
+    let mut room = Numbers::new();
     let mut lent = Lent::new();
     for (k, piece) in (1..).zip(text.split_inclusive(|byte| *byte == b'\n')) {
-        match obey_piece(rt, piece, &mut lent) {
+        match obey_piece(rt, piece, &mut room, &mut lent) {
             Ok(()) => {}
             Err(Fault::NotACommand) => return println!(rt; "not a command: line {k}"),
             Err(Fault::Io(error)) => return Err(error),
