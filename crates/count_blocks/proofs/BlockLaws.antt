@@ -201,13 +201,15 @@ module _ (n : ℕ) (s l u : List ℕ) (h : Ordered n s l) (c : ℕ) (ready : Blo
   pub filling_row : k < length l → vertex_at l k < length t
   filling_row hk = omega (arith, h.order.vertex k (omega (arith, h.long)), f.filled.long, rows_within ready.shape)
 
-  pub filling_more : (v : List ℕ) (mask r : ℕ) → k < length l → v ≡ with_counts n t (vertex_at l k) c 16 (λ (j : ℕ). count_by_mask n t (vertex_at l k) j mask)
+  pub filling_more : (v : List ℕ) (mask r : ℕ) → k < length l
+      → v ≡ with_counts n t (vertex_at l k) c 16 (λ (j : ℕ). count_by_mask n t (vertex_at l k) j mask)
       → mask ≡ bit_and (row_at t (vertex_at l k)) leading → Led (vertex_at l k) leading mask r → Filling n s l c (k + 1) r v
   filling_more v mask r q p em led = let hk : k < n = omega (arith, h.long) in record {
     filled = filled_more n s l h ready.shape c 16 ready.within t v k hk f.filled
         (counts_as _ _ _ _ _ _ _ p _ (led_sum n t l c k leading mask em (same_ordered n s t f.filled.long f.filled.rows l h) hk f.led));
     led = unled_more n t v (vertex_at l) c k leading _ r f.led led
-        (counts_in _ _ _ _ _ _ _ p (omega (arith, from_within n (vertex_at l k) (h.order.vertex k hk), f.filled.long, ready.shape.long, ready.within)))
+        (counts_in _ _ _ _ _ _ _ p
+        (omega (arith, from_within n (vertex_at l k) (h.order.vertex k hk), f.filled.long, ready.shape.long, ready.within)))
         (λ a j d low high. counts_stay _ _ _ _ _ _ _ p ready.within a j (omega (arith, ready.within)) (λ e. absurd (d e)));
   }
 
@@ -229,7 +231,8 @@ module _ (n : ℕ) (s l : List ℕ) (h : Ordered n s l) (c k leading : ℕ) (was
   module _ (row mask : ℕ) (is : row ≡ row_at s (vertex_at l k)) (em : mask ≡ bit_and row leading) (t : Bool)
       (part : Reflects t (PartHolds n s (vertex_at l k) c mask)) (hk : k < n) where
     vertex_holds : Reflects t (VertexHolds n s l c k)
-    vertex_holds = reflects_iff (λ f j low high. f j low high ∙ whole j low high) (λ f j low high. f j low high ∙ sym (whole j low high)) part
+    vertex_holds =
+        reflects_iff (λ f j low high. f j low high ∙ whole j low high) (λ f j low high. f j low high ∙ sym (whole j low high)) part
       where
         whole : (j : ℕ) → c ≤ j → j < c + 16 → count_by_mask n s (vertex_at l k) j mask ≡ successors_sum n s (vertex_at l k) j
         whole = led_sum n s l c k leading mask (em ∙ ap (λ (x : ℕ). bit_and x leading) is) h hk was.led

@@ -166,8 +166,8 @@ fn fill_part(n: usize, sheet: &mut [u64], i: usize, c: usize, mask: u64, unit: &
 }
 
 // The counts from every vertex to the columns from c on, written in the order given. A struct can't hold the order with the `&mut` either:
-// it is an order of the sheet as it was lent. `Block::holds` and `blocks_hold` walk as this and `fill_blocks` do: a walk for both would hold
-// the sheet that these write, and masks that are kept for a second loop cost a ninth of the time on sparse sheets, as tried in C.
+// it is an order of the sheet as it was lent. `Block::holds` and `blocks_hold` walk as this and `fill_blocks` do: a walk for both would
+// hold the sheet that these write, and masks kept for a second loop cost a ninth of the time on sparse sheets, as tried in C.
 fn fill_block(n: usize, sheet: &mut [u64], c: usize, order: &[usize], unit: &[u64; UNIT_WORDS])
     requires { (BlockReady n sheet.old c unit.now) × (Ordered n sheet.old order.now) }
     ensures { ColumnsFilled n sheet.old c columns sheet.new }

@@ -1,4 +1,4 @@
--- `vertex_counts::fill_all_counts` meets its contract: once the counts from all vertices are worked out, so are all counts. Assumes nothing.
+-- `vertex_counts::fill_all_counts` meets its contract: with the counts from every vertex all are worked out. Assumes nothing.
 use Rattle.std.proofs.Common.{arith}
 use Rattle.vertex_counts.proofs.FilledLaws.{filled_all, columns_all}
 use Rattle.vertex_counts.proofs.fill_all_counts.Goals as goal
