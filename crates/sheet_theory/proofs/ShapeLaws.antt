@@ -5,7 +5,6 @@ use mathlib.Core.Logic.{inl, inr}
 use mathlib.Core.Bool.{◌||◌}
 use mathlib.Core.List.{[]}
 use Prim.Native.Nat.{ℕ, ◌≤◌, ◌<◌}
-use native.Mathlib.Nat.{lt_of_not-le}
 use native.Mathlib.Decide.{dec_lt, ℕ_discrete}
 use native.Mathlib.Omega.{arith}
 use lib.Dec.{ltb}
@@ -95,12 +94,6 @@ module _ (n i j : ℕ) where
   -- its way on
   pub vertex_good : i < n → j < n → First (vertex_conditions n i j []) 0
   vertex_good hi hj = inr (λ c. elim c [ inl l ↦ omega arith | inr l ↦ omega arith ], refl)
-
-  -- 0 says that both are there
-  pub vertex_below : (cs : Conditions) → First (vertex_conditions n i j cs) 0 → (i < n) × (j < n)
-  vertex_below cs f =
-      let r = first_not (vertex_conditions n i j cs) 0 f 3 refl in
-      (lt_of_not-le (λ l. r (inl l)), lt_of_not-le (λ l. r (inr l)))
 
 -- ---- the ways out of a call
 

@@ -83,10 +83,6 @@ highest_leading x p h =
       greatest = λ k l. elim (bit_cases x k) [ inl z ↦ z | inr o ↦ absurd (omega (arith, t.1, bit_one_lt _ x k t.3 o)) ];
     }
 
--- the lowest bit of a number of n digits is one of them
-pub lowest_lt : (n x b : ℕ) → Lowest x b → x < 2 ^ n → b < n
-lowest_lt n x b l h = l.below n h
-
 -- with its lowest bit cleared a number falls
 pub lowest_cleared_lt : (x b r : ℕ) → Lowest x b → LowestCleared x r → r < x
 lowest_cleared_lt x b r l e = rw (e b l) (clear_lt x b l.set)
