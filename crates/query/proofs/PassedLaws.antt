@@ -1,6 +1,6 @@
 -- The laws of the rank of a path: the counts passed over from one vertex, added up bit by bit, and from each vertex to the next.
 -- Assumes nothing.
-use Rattle.std.proofs.Common.{◌≡◌, ℕ, ◌+◌, ◌-◌, ◌%◌, ◌^◌, ◌≤◌, ◌<◌, List, [], ◌∷◌, length, get_or, drop, refl, sym, ap, ◌∙◌, zero-add, arith}
+use Rattle.std.proofs.Common.{◌≡◌, ℕ, ◌+◌, ◌-◌, ◌%◌, ◌^◌, ◌<◌, List, [], ◌∷◌, length, get_or, refl, sym, ap, ◌∙◌, arith}
 use lib.Bits.{bit_and}
 use Rattle.word.specs.Bit.{Lowest, LowestCleared}
 use Rattle.word.proofs.VisitLaws.{Adding, adding_low, adding_more, adding_done}
@@ -8,7 +8,6 @@ use Rattle.sheet_theory.specs.Layout.{row_at, count_at, edge_at}
 use Rattle.query_theory.specs.PassedOver.{passed, passed_over, end}
 use Rattle.query_theory.specs.Rank.{path_rank}
 use Rattle.query_theory.proofs.ByPlace.{end_places}
-use Rattle.query.proofs.PathLaws.{drop_here, drop_both, drop_last}
 
 -- ---- pass_over: rest is what is left of the row's bits below b, x the sum so far
 
@@ -28,43 +27,37 @@ module _ (n : ℕ) (s : List ℕ) (j i b : ℕ) where
   unfolding passed
   passing_done rest x was e = adding_done b (row_at s i) (λ a. count_at n s a j) rest x was e
 
--- ---- path_rank: j is the end, t the place reached, x the sum so far
+-- ---- path_rank: j is the end, rest what is left of the path p, x the sum so far
 
--- x and the counts passed over from the place before t on make the rank, modulo 2 ^ 64
-pub record Ranking (n : ℕ) (s : List ℕ) (j : ℕ) (p : List ℕ) (t x : ℕ) : Type 0 where
+-- x and the counts passed over on rest make the rank, modulo 2 ^ 64
+pub record Ranking (n : ℕ) (s : List ℕ) (j : ℕ) (p rest : List ℕ) (x : ℕ) : Type 0 where
   pub small : x < 2 ^ 64
-  pub adds : (x + passed_over (edge_at s) (count_at n s) j (drop (t - 1) p)) % 2 ^ 64 ≡ passed_over (edge_at s) (count_at n s) j p % 2 ^ 64
+  pub adds : (x + passed_over (edge_at s) (count_at n s) j rest) % 2 ^ 64 ≡ passed_over (edge_at s) (count_at n s) j p % 2 ^ 64
 
--- a path without vertices passes nothing over
-pub ranking_empty : (n : ℕ) (s p : List ℕ) → length p ≡ 0 → 0 ≡ path_rank n s p % 2 ^ 64
-unfolding passed_over
-ranking_empty n s [] e = refl
-ranking_empty n s (x ∷ p) e = absurd (omega arith)
-
-module _ (n : ℕ) (s : List ℕ) (j : ℕ) (p : List ℕ) where
-  pub ranking_start : Ranking n s j p 1 0
-  ranking_start = record { small = omega arith; adds = ap (λ z. z % 2 ^ 64) (zero-add _) }
-
-  passed_here : (t : ℕ) → 1 ≤ t → t < length p
-      → passed_over (edge_at s) (count_at n s) j (drop (t - 1) p)
-      ≡ passed (edge_at s) (count_at n s) j (get_or p (t - 1) 0) (get_or p t 0) + passed_over (edge_at s) (count_at n s) j (drop t p)
+module _ (n : ℕ) (s : List ℕ) (j : ℕ) where
+  -- a list of no more than one vertex passes nothing over
+  passed_none : (rest : List ℕ) → length rest < 2 → passed_over (edge_at s) (count_at n s) j rest ≡ 0
   unfolding passed_over
-  passed_here t l h =
-      ap (passed_over (edge_at s) (count_at n s) j) (drop_both p t l (omega arith) ∙ ap (λ (q : List ℕ). get_or p (t - 1) 0 ∷ q) (drop_here p t h))
-      ∙ ap (λ (q : List ℕ). passed (edge_at s) (count_at n s) j (get_or p (t - 1) 0) (get_or p t 0) + passed_over (edge_at s) (count_at n s) j q) (sym (drop_here p t h))
+  passed_none [] l = refl
+  passed_none (x ∷ []) l = refl
+  passed_none (x ∷ y ∷ q) l = absurd (omega arith)
 
-  module _ (t x : ℕ) (low : 1 ≤ t) (was : Ranking n s j p t x) where
-    pub ranking_more : (y z : ℕ) → t < length p → y ≡ passed (edge_at s) (count_at n s) j (get_or p (t - 1) 0) (get_or p t 0) % 2 ^ 64
-        → z ≡ (x + y) % 2 ^ 64 → Ranking n s j p (t + 1) z
-    ranking_more y z h ey ez =
-        let e : (t + 1) - 1 ≡ t = omega arith in
-        record { small = omega arith; adds = rw e (omega (arith, was.adds, passed_here t low h)) }
-
-    pub ranking_done : length p ≡ t → j ≡ get_or p (length p - 1) 0 → x ≡ path_rank n s p % 2 ^ 64
+  module _ (p rest : List ℕ) (x : ℕ) (was : Ranking n s j p rest x) where
+    -- b is what stands after a
+    pub ranking_more : (left later : List ℕ) (a b y z : ℕ) → rest ≡ a ∷ left → left ≡ b ∷ later
+        → y ≡ passed (edge_at s) (count_at n s) j a b % 2 ^ 64 → z ≡ (x + y) % 2 ^ 64 → Ranking n s j p left z
     unfolding passed_over
+    ranking_more left later a b y z er el ey ez =
+        let here : passed_over (edge_at s) (count_at n s) j rest
+        ≡ passed (edge_at s) (count_at n s) j a b + passed_over (edge_at s) (count_at n s) j left
+        = rw (er, el) refl in
+        record { small = omega arith; adds = omega (arith, was.adds, here) }
+
+    pub ranking_done : length rest < 2 → j ≡ get_or p (length p - 1) 0 → x ≡ path_rank n s p % 2 ^ 64
     ranking_done l ej =
-        let none : passed_over (edge_at s) (count_at n s) j (drop (t - 1) p) ≡ 0
-        = ap (passed_over (edge_at s) (count_at n s) j) (drop_last p t low l) in
         let same : j ≡ end p = ej ∙ sym (end_places p) in
-        let e : x ≡ passed_over (edge_at s) (count_at n s) j p % 2 ^ 64 = omega (arith, none, was.small, was.adds) in
+        let e : x ≡ passed_over (edge_at s) (count_at n s) j p % 2 ^ 64 = omega (arith, passed_none rest l, was.small, was.adds) in
         e ∙ ap (λ (z : ℕ). passed_over (edge_at s) (count_at n s) z p % 2 ^ 64) same
+
+pub ranking_empty : (n : ℕ) (s p : List ℕ) → length p ≡ 0 → 0 ≡ path_rank n s p % 2 ^ 64
+ranking_empty n s p e = omega (arith, passed_none n s (end p) p (omega (arith, e)))

@@ -32,7 +32,7 @@ pub(crate) fn check_walk(
 fn has_no_vertex(n: usize, path: &[u8]) -> bool
     ensures { Reflects result (SomeNoVertex n path.now) }
 {
-    // A loop and not `any`, and below places and not `windows(2)`: each takes an instruction less a byte.
+    // A loop and not `any`, which takes an instruction more a byte.
     for vertex in path {
         if n <= usize::from(*vertex) {
             return true;
@@ -49,8 +49,8 @@ fn is_broken(sheet: View, path: &[u8]) -> bool
     if path.is_empty() || sheet.n < path.len() {
         return true;
     }
-    for t in 1..path.len() {
-        if !sheet.has_edge(usize::from(path[t - 1]), usize::from(path[t])) {
+    for (here, next) in path.iter().zip(&path[1..]) {
+        if !sheet.has_edge(usize::from(*here), usize::from(*next)) {
             return true;
         }
     }

@@ -33,10 +33,9 @@ pub(crate) fn path_rank(sheet: View, path: &[u8]) -> u64
     let end = usize::from(*last);
     let mut sum = 0;
 
-    // By places and not by `windows(2)`, which takes two instructions more a byte.
-    for t in 1..path.len() {
-        let next = pass_over(sheet, usize::from(path[t - 1]), usize::from(path[t]), end);
-        sum = word::wrapping_add(sum, next);
+    for (here, next) in path.iter().zip(&path[1..]) {
+        let passed = pass_over(sheet, usize::from(*here), usize::from(*next), end);
+        sum = word::wrapping_add(sum, passed);
     }
     sum
 }

@@ -1,22 +1,13 @@
--- `query::checks::is_broken` meets its contract: each way out is a law of PathLaws. Assumes nothing.
-use Rattle.std.proofs.Common.{◌≡◌, length, rules, arith}
-use Rattle.query.proofs.PathLaws.{gap_found, gap_more, gap_none}
+-- `query::checks::is_broken` meets its contract: a turn takes the first vertex from what is left. Assumes nothing.
+use Rattle.std.proofs.Common.{◌∙◌, ap, sym, drop, rules}
+use Rattle.query.proofs.PathLaws.{left_vertices}
 use Rattle.query.proofs.checks.is_broken.Goals as goal
 
-pub loop-t-preserved : goal.loop-t-preserved
-loop-t-preserved c =
-    let a = c.args in
-    gap_more a.sheet.n a.sheet.words.now a.path.now c.loop-t.t c.loop-t.invariant (omega arith) (omega arith) _
-    (rw (c.from.ensures, c.from-in-loop-t.ensures) at c.has_edge.ensures) c.if-not-has_edge.false
-
-pub returns-then-not-has_edge : goal.returns-then-not-has_edge
-returns-then-not-has_edge c =
-    let a = c.args in
-    gap_found a.sheet.n a.sheet.words.now a.path.now c.loop-t.t c.loop-t.invariant (omega arith) (omega arith) _
-    (rw (c.from.ensures, c.from-in-loop-t.ensures) at c.has_edge.ensures) c.if-not-has_edge.true
-
-pub returns : goal.returns
-returns c =
-    let a = c.args in
-    let some : length a.path.now ≡ 0 → ⊥ = search rules in
-    gap_none a.sheet.n a.sheet.words.now a.path.now c.loop-t.t c.loop-t.invariant (omega arith) some c.if-sheet-path.false (omega (arith, some))
+pub loop-here-preserved : goal.loop-here-preserved
+loop-here-preserved c =
+    let at = c.in-Some.ensures.steps in
+    let next = sym (ap (drop 1) at.0) ∙ sym c.loop-here.invariant.0 ∙ at.1 in (
+      sym (ap (drop 1) next),
+      left_vertices _ _ _ _ at.0 c.loop-here.invariant.1,
+      search rules,
+    )
