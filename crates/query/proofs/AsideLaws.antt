@@ -33,7 +33,7 @@ onto_alone : (l : List ℕ) (x : ℕ) → onto l (x ∷ []) ≡ l ++ x ∷ []
 onto_alone [] x = refl
 onto_alone (y ∷ l) x = ap (headed y) (onto_alone l x) ∙ headed_some y x l []
 
--- ---- walk_aside: the walk is at a vertex, `left` is left of its rank, and `count` vertices before it are kept in l
+-- ---- ByRank::walk: the walk is at a vertex, `left` is left of its rank, and `count` vertices before it are kept in l
 
 pub record Walking (n : ℕ) (s : List ℕ) (i j k at left count : ℕ) (l : List ℕ) : Type 0 where
   pub long : length l ≡ 64
