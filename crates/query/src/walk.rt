@@ -1,12 +1,13 @@
 // The question of a walk by a rank: its checks past that of the sheet, and the walk. From each vertex the edges are tried in ascending
 // order, and the counts passed over are taken off.
-ghost use Rattle.std.specs.Prelude.{◌≡◌, ◌<◌, MatchOption, [], length};
+ghost use Rattle.std.specs.Prelude.{◌≡◌, ◌<◌, MatchOption, []};
 ghost use Rattle.answer.specs.Answers.{number_of};
 ghost use Rattle.answer.specs.Table.{First};
 ghost use Rattle.sheet_theory.specs.Lent.{lent};
 ghost use Rattle.query_theory.specs.Unrank.{walk};
 ghost use Rattle.query.specs.Internal.{Stepped, IsWalk, before_walk};
 
+use arrayvec::ArrayVec;
 use sheet::{Refusal, Sheet, View};
 use word::Bits;
 
@@ -56,25 +57,19 @@ impl ByRank {
         Ok(())
     }
 
-    // The walk, written to `aside`, if it arrives with the rank at 0.
-    pub(crate) fn walk<'a>(
-        self,
-        sheet: View,
-        aside: &'a mut [u8; Sheet::VERTICES],
-    ) -> Option<&'a [u8]>
+    // The vertices of the walk, if it arrives with the rank at 0.
+    pub(crate) fn walk(self, sheet: View) -> Option<ArrayVec<u8, { Sheet::VERTICES }>>
         requires { (self.from < sheet.n) × (self.to < sheet.n) }
-        ensures { MatchOption result (walk sheet.entry.n sheet.entry.words.now self.from self.to self.k ≡ []) (λ l. IsWalk sheet.entry.n sheet.entry.words.now self.from self.to self.k l.now) }
+        ensures { MatchOption result (walk sheet.entry.n sheet.entry.words.now self.from self.to self.k ≡ []) (λ l. IsWalk sheet.entry.n sheet.entry.words.now self.from self.to self.k l.items) }
     {
+        let mut path = ArrayVec::new();
         let mut at = self.from;
         let mut left = self.k;
-        for count in 0..sheet.n {
+        for _ in 0..sheet.n {
             // A vertex fits a byte, so the cast loses nothing; `try_from` would give an error that can't come.
-            aside[count] = at as u8;
+            path.push(at as u8);
             if at == self.to {
-                if left == 0 {
-                    return Some(&aside[..count + 1]);
-                }
-                return None;
+                return (left == 0).then_some(path);
             }
             let next = step(sheet, at, self.to, left)?;
             at = next.vertex;

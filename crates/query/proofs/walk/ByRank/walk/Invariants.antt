@@ -2,5 +2,5 @@
 use Rattle.query.proofs.AsideLaws.{Walking}
 use Rattle.query.proofs.walk.ByRank.walk.Given as goal
 
-abbrev pub invariant-loop-count : goal.invariant-loop-count
-invariant-loop-count l = Walking l.sheet.n l.sheet.words.now l.self.from l.self.to l.self.k l.at l.left l.count l.aside
+abbrev pub invariant-loop : goal.invariant-loop
+invariant-loop l = Walking l.sheet.n l.sheet.words.now l.self.from l.self.to l.self.k l.at l.left l.counter l.path.items
