@@ -1,7 +1,8 @@
--- The laws of the walk written aside, vertex by vertex. Assumes nothing.
-use Rattle.std.proofs.Common.{◌≡◌, ℕ, suc, ◌+◌, ◌-◌, ◌≤◌, ◌<◌, Some, None, List, [], ◌∷◌, ◌++◌, length, take, refl, sym, ap, ap₂, ◌∙◌, length-take-le, arith}
-use lib.ListN.{set, length-set}
-use lib.Seq.{take-suc-set}
+-- The laws of the walk kept aside, vertex by vertex. Assumes nothing.
+use Rattle.std.proofs.Common.{◌≡◌, Bool, true, false, eqb, ℕ, suc, ◌+◌, ◌-◌, ◌≤◌, ◌<◌, Option, Some, None, MatchOption, List, [], ◌∷◌, ◌++◌, length, refl, sym, ap, ◌∙◌, length-append, eqb-true, arith}
+use Rattle.std.proofs.lemmas.Bool.{eqb-false}
+use Rattle.std.specs.Bool.{then_some}
+use Rattle.arrayvec.specs.ArrayVec.{ArrayVec}
 use Rattle.sheet_theory.specs.Layout.{count_at, edge_at}
 use Rattle.query.specs.declared.walk.Next.{Next}
 use Rattle.query_theory.specs.Walk.{headed, walked}
@@ -33,16 +34,22 @@ onto_alone : (l : List ℕ) (x : ℕ) → onto l (x ∷ []) ≡ l ++ x ∷ []
 onto_alone [] x = refl
 onto_alone (y ∷ l) x = ap (headed y) (onto_alone l x) ∙ headed_some y x l []
 
--- ---- walk_aside: the walk is at a vertex, `left` is left of its rank, and `count` vertices before it are kept in l
+-- ---- what `then_some` answers
+some_if : {A : Type 0} (b : Bool) (a : A) (o : Option A) (P : Type 0) (Q : A → Type 0) → o ≡ then_some b a → (b ≡ true → Q a) → (b ≡ false → P) → MatchOption o P Q
+some_if true a o P Q e some none = rw e (some refl)
+some_if false a o P Q e some none = rw e (none refl)
+
+-- ---- ByRank::walk: the walk is at a vertex, `left` is left of its rank, and the `count` vertices before it are kept in l
 
 pub record Walking (n : ℕ) (s : List ℕ) (i j k at left count : ℕ) (l : List ℕ) : Type 0 where
-  pub long : length l ≡ 64
+  pub many : length l ≡ count
   pub vertex : at < n
-  pub goes_on : walk n s i j k ≡ onto (take count l) (walked (edge_at s) (count_at n s) j n (n - count) at left)
+  pub goes_on : walk n s i j k ≡ onto l (walked (edge_at s) (count_at n s) j n (n - count) at left)
 
 module _ (n : ℕ) (s : List ℕ) (i j k : ℕ) where
-  pub walking_start : (l : List ℕ) → i < n → length l ≡ 64 → Walking n s i j k i k 0 l
-  walking_start l h long = record { long = long; vertex = h; goes_on = ap (λ m. walked (edge_at s) (count_at n s) j n m i k) (omega arith) }
+  pub walking_start : (l : List ℕ) → i < n → l ≡ [] → Walking n s i j k i k 0 l
+  walking_start l h e =
+      rw e (record { many = refl; vertex = h; goes_on = ap (λ m. walked (edge_at s) (count_at n s) j n m i k) (omega arith) })
 
   module _ (at left count : ℕ) (l : List ℕ) (was : Walking n s i j k at left count l) where
     -- n vertices have not arrived
@@ -50,38 +57,34 @@ module _ (n : ℕ) (s : List ℕ) (i j k : ℕ) where
     walking_far h =
         let e : n - count ≡ 0 = omega arith in
         was.goes_on
-        ∙ ap (λ (m : ℕ). onto (take count l) (walked (edge_at s) (count_at n s) j n m at left)) e
-        ∙ ap (onto (take count l)) (walked_none n (edge_at s) (count_at n s) j at left)
-        ∙ onto_none (take count l)
+        ∙ ap (λ (m : ℕ). onto l (walked (edge_at s) (count_at n s) j n m at left)) e
+        ∙ ap (onto l) (walked_none n (edge_at s) (count_at n s) j at left)
+        ∙ onto_none l
 
     -- otherwise the vertex is kept
-    module _ (high : n ≤ 64) (h : count < n) (l' : List ℕ) (el : l' ≡ set l count at) where
-      room : count < length l
-      room = omega (arith, was.long)
+    module _ (h : count < n) (l' : List ℕ) (el : l' ≡ l ++ at ∷ []) where
+      many' : length l' ≡ count + 1
+      many' = omega (arith, ap length el ∙ length-append l (at ∷ []), was.many)
 
-      long' : length l' ≡ 64
-      long' = ap length el ∙ length-set l count at ∙ was.long
-
-      front : take (count + 1) l' ≡ take count l ++ at ∷ []
-      front = let e : count + 1 ≡ suc count = omega arith in ap₂ take e el ∙ take-suc-set l count at room
-
-      rest : walk n s i j k ≡ onto (take count l) (walked (edge_at s) (count_at n s) j n (suc (n - (count + 1))) at left)
-      rest = let e : n - count ≡ suc (n - (count + 1)) = omega arith in was.goes_on ∙ ap (λ (m : ℕ). onto (take count l) (walked (edge_at s) (count_at n s) j n m at left)) e
+      rest : walk n s i j k ≡ onto l (walked (edge_at s) (count_at n s) j n (suc (n - (count + 1))) at left)
+      rest = let e : n - count ≡ suc (n - (count + 1)) = omega arith in was.goes_on ∙ ap (λ (m : ℕ). onto l (walked (edge_at s) (count_at n s) j n m at left)) e
 
       fails : walked (edge_at s) (count_at n s) j n (suc (n - (count + 1))) at left ≡ [] → walk n s i j k ≡ []
-      fails e = rest ∙ ap (onto (take count l)) e ∙ onto_none (take count l)
+      fails e = rest ∙ ap (onto l) e ∙ onto_none l
 
-      pub walking_here : at ≡ j → left ≡ 0 → IsWalk n s i j k (take (count + 1) l')
-      walking_here e z =
-          let many : length (take (count + 1) l') ≡ count + 1 = length-take-le (count + 1) l' (omega (arith, long')) in
-          record {
-            some = omega (arith, many);
-            within = omega (arith, many);
-            is = front ∙ sym (rest ∙ ap (onto (take count l)) (walked_here n (edge_at s) (count_at n s) j _ at left e z) ∙ onto_alone (take count l) at);
-          }
+      here : at ≡ j → left ≡ 0 → IsWalk n s i j k l'
+      here e z = record {
+        some = omega (arith, many');
+        within = omega (arith, many');
+        is = el ∙ sym (rest ∙ ap (onto l) (walked_here n (edge_at s) (count_at n s) j _ at left e z) ∙ onto_alone l at);
+      }
 
-      pub walking_left : at ≡ j → (left ≡ 0 → ⊥) → walk n s i j k ≡ []
-      walking_left e d = fails (walked_left n (edge_at s) (count_at n s) j _ at left e d)
+      pub walking_ends : at ≡ j → (v : ArrayVec ℕ) → v.items ≡ l' → (o : Option (ArrayVec ℕ)) → o ≡ then_some (eqb left 0) v
+          → MatchOption o (walk n s i j k ≡ []) (λ w. IsWalk n s i j k w.items)
+      walking_ends e v ev o eo =
+          some_if (eqb left 0) v o _ _ eo
+          (λ z. rw ev (here e (eqb-true left 0 z)))
+          (λ z. fails (walked_left n (edge_at s) (count_at n s) j _ at left e (eqb-false left 0 z)))
 
       module _ (d : at ≡ j → ⊥) where
         pub walking_stuck : Stepped n s at j left None → walk n s i j k ≡ []
@@ -89,10 +92,10 @@ module _ (n : ℕ) (s : List ℕ) (i j k : ℕ) where
 
         pub walking_more : (r : Next) → Stepped n s at j left (Some r) → Walking n s i j k r.vertex r.left (count + 1) l'
         walking_more r p = record {
-          long = long';
+          many = many';
           vertex = p.0;
           goes_on = rest
-              ∙ ap (onto (take count l)) (walked_goes n (edge_at s) (count_at n s) j _ at left r.vertex r.left d p.1)
-              ∙ sym (onto_last (take count l) at (walked (edge_at s) (count_at n s) j n (n - (count + 1)) r.vertex r.left))
-              ∙ ap (λ (q : List ℕ). onto q (walked (edge_at s) (count_at n s) j n (n - (count + 1)) r.vertex r.left)) (sym front);
+              ∙ ap (onto l) (walked_goes n (edge_at s) (count_at n s) j _ at left r.vertex r.left d p.1)
+              ∙ sym (onto_last l at (walked (edge_at s) (count_at n s) j n (n - (count + 1)) r.vertex r.left))
+              ∙ ap (λ (q : List ℕ). onto q (walked (edge_at s) (count_at n s) j n (n - (count + 1)) r.vertex r.left)) (sym el);
         }

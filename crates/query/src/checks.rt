@@ -1,32 +1,12 @@
-// What is looked for before a walk and before a rank, past the shape of the sheet, in the order of document 01's table.
+// What is looked for before a rank, past the shape of the sheet, in the order of document 01's table.
 ghost use Rattle.std.specs.Prelude.{◌≡◌, ◌<◌};
 ghost use Rattle.answer.specs.Answers.{number_of};
 ghost use Rattle.answer.specs.Table.{First, Reflects};
 ghost use Rattle.sheet_theory.specs.Lent.{lent};
 ghost use Rattle.query_theory.specs.Rank.{SomeNoVertex, Broken, path_conditions};
-ghost use Rattle.query.specs.Internal.{Vertices, before_walk};
+ghost use Rattle.query.specs.Internal.{Vertices};
 
 use sheet::{Refusal, View};
-
-// Whether a path of the rank k may be asked for, or why not: 3, 10, 11.
-pub(crate) fn check_walk(
-    sheet: View,
-    from: usize,
-    to: usize,
-    k: u64,
-    bytes: usize,
-) -> Result<(), Refusal>
-    ensures { First (before_walk sheet.entry.n (lent sheet.entry.words.now) from to k bytes) (number_of result) }
-{
-    sheet.check_vertices(from, to)?;
-    if bytes < sheet.n {
-        return Err(Refusal::Buffer);
-    }
-    if sheet.count(from, to) <= k {
-        return Err(Refusal::NoSuchPath);
-    }
-    Ok(())
-}
 
 // Whether some byte is n or more.
 fn has_no_vertex(n: usize, path: &[u8]) -> bool

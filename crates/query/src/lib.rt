@@ -14,7 +14,8 @@ mod passed;
 mod walk;
 mod without;
 
-use sheet::{Answer, Refusal, Sheet, View};
+use sheet::{Answer, Refusal, View};
+use walk::ByRank;
 use without::WithoutEdge;
 
 // Whether the product of the counts to an edge and from it differs from the count between two vertices; on a valid sheet, whether
@@ -55,26 +56,18 @@ pub fn unrank(n: usize, sheet: &[u64], from: usize, to: usize, k: u64, path: &mu
     ensures answer { result ≡ unrank_answer n (lent sheet.now) from to k (length path.old) }
     ensures bytes { path.new ≡ unrank_after n (lent sheet.now) from to k path.old }
 {
-    write_walk(n, sheet, from, to, k, path).into()
+    write_walk(n, sheet, ByRank { from, to, k }, path).into()
 }
 
 // The work of `unrank`.
-fn write_walk(
-    n: usize,
-    sheet: &[u64],
-    from: usize,
-    to: usize,
-    k: u64,
-    path: &mut [u8],
-) -> Result<u64, Refusal>
-    ensures answer { answer_of result ≡ unrank_answer n (lent sheet.now) from to k (length path.old) }
-    ensures bytes { path.new ≡ unrank_after n (lent sheet.now) from to k path.old }
+fn write_walk(n: usize, sheet: &[u64], asked: ByRank, path: &mut [u8]) -> Result<u64, Refusal>
+    ensures answer { answer_of result ≡ unrank_answer n (lent sheet.now) asked.from asked.to asked.k (length path.old) }
+    ensures bytes { path.new ≡ unrank_after n (lent sheet.now) asked.from asked.to asked.k path.old }
 {
     let sheet = View::of(n, sheet)?;
-    checks::check_walk(sheet, from, to, k, path.len())?;
-    let mut aside = [0u8; Sheet::VERTICES];
-    let walk = walk::walk_aside(sheet, from, to, k, &mut aside).ok_or(Refusal::NotValid)?;
-    path[..walk.len()].copy_from_slice(walk);
+    asked.check(sheet, path.len())?;
+    let walk = asked.walk(sheet).ok_or(Refusal::NotValid)?;
+    path[..walk.len()].copy_from_slice(&walk);
 
     // The length is cast: from `usize` to `u64` there is no `From`.
     Ok(walk.len() as u64)

@@ -1,9 +1,14 @@
-// The walk by a rank: from each vertex its edges are tried in ascending order, and the counts passed over are taken off.
-ghost use Rattle.std.specs.Prelude.{◌≡◌, ◌<◌, MatchOption, [], length};
+// The question of a walk by a rank: its checks past that of the sheet, and the walk. From each vertex the edges are tried in ascending
+// order, and the counts passed over are taken off.
+ghost use Rattle.std.specs.Prelude.{◌≡◌, ◌<◌, MatchOption, []};
+ghost use Rattle.answer.specs.Answers.{number_of};
+ghost use Rattle.answer.specs.Table.{First};
+ghost use Rattle.sheet_theory.specs.Lent.{lent};
 ghost use Rattle.query_theory.specs.Unrank.{walk};
-ghost use Rattle.query.specs.Internal.{Stepped, IsWalk};
+ghost use Rattle.query.specs.Internal.{Stepped, IsWalk, before_walk};
 
-use sheet::{Sheet, View};
+use arrayvec::ArrayVec;
+use sheet::{Refusal, Sheet, View};
 use word::Bits;
 
 // Where a walk goes next, and what is left of the rank.
@@ -29,31 +34,47 @@ fn step(sheet: View, i: usize, to: usize, k: u64) -> Option<Next>
     None
 }
 
-// The walk, written to `aside`, if it arrives with the rank at 0.
-pub(crate) fn walk_aside<'a>(
-    sheet: View,
-    from: usize,
-    to: usize,
-    k: u64,
-    aside: &'a mut [u8; Sheet::VERTICES],
-) -> Option<&'a [u8]>
-    requires { (from < sheet.n) × (to < sheet.n) }
-    ensures { MatchOption result (walk sheet.entry.n sheet.entry.words.now from to k ≡ []) (λ l. IsWalk sheet.entry.n sheet.entry.words.now from to k l.now) }
-{
-    let mut at = from;
-    let mut left = k;
-    for count in 0..sheet.n {
-        // A vertex fits a byte, so the cast loses nothing; `try_from` would give an error that can't come.
-        aside[count] = at as u8;
-        if at == to {
-            if left == 0 {
-                return Some(&aside[..count + 1]);
-            }
-            return None;
+// Where a walk begins and ends, and its rank.
+#[derive(Clone, Copy)]
+pub(crate) struct ByRank {
+    pub(crate) from: usize,
+    pub(crate) to: usize,
+    pub(crate) k: u64,
+}
+
+impl ByRank {
+    // Whether such a walk may be asked for, or why not: 3, 10, 11.
+    pub(crate) fn check(self, sheet: View, bytes: usize) -> Result<(), Refusal>
+        ensures { First (before_walk sheet.entry.n (lent sheet.entry.words.now) self.from self.to self.k bytes) (number_of result) }
+    {
+        sheet.check_vertices(self.from, self.to)?;
+        if bytes < sheet.n {
+            return Err(Refusal::Buffer);
         }
-        let next = step(sheet, at, to, left)?;
-        at = next.vertex;
-        left = next.left;
+        if sheet.count(self.from, self.to) <= self.k {
+            return Err(Refusal::NoSuchPath);
+        }
+        Ok(())
     }
-    None
+
+    // The vertices of the walk, if it arrives with the rank at 0.
+    pub(crate) fn walk(self, sheet: View) -> Option<ArrayVec<u8, { Sheet::VERTICES }>>
+        requires { (self.from < sheet.n) × (self.to < sheet.n) }
+        ensures { MatchOption result (walk sheet.entry.n sheet.entry.words.now self.from self.to self.k ≡ []) (λ l. IsWalk sheet.entry.n sheet.entry.words.now self.from self.to self.k l.items) }
+    {
+        let mut path = ArrayVec::new();
+        let mut at = self.from;
+        let mut left = self.k;
+        for _ in 0..sheet.n {
+            // A vertex fits a byte, so the cast loses nothing; `try_from` would give an error that can't come.
+            path.push(at as u8);
+            if at == self.to {
+                return (left == 0).then_some(path);
+            }
+            let next = step(sheet, at, self.to, left)?;
+            at = next.vertex;
+            left = next.left;
+        }
+        None
+    }
 }

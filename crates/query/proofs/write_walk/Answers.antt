@@ -13,20 +13,20 @@ returns-in_err-sheet c = record {
   bytes = unsized_after (unrank_first _ _ _ _ _ _) _ c.in_err-sheet.ensures.number _ _;
 }
 
-pub returns-in_err-check_walk : goal.returns-in_err-check_walk
-returns-in_err-check_walk c =
+pub returns-in_err-check : goal.returns-in_err-check
+returns-in_err-check c =
     let a = c.args in
     let v = c.in_ok-sheet.ensures.view in
-    let way = unrank_stops a.n (lent a.sheet.now) a.from a.to a.k a.path.now c.in_ok-sheet.ensures.number c.from_residual-in_err-check_walk.result
-    c.in_err-check_walk.field-0.0 (search rules) (rw (v.0, v.1) at c.in_err-check_walk.ensures) in
+    let way = unrank_stops a.n (lent a.sheet.now) a.asked.from a.asked.to a.asked.k a.path.now c.in_ok-sheet.ensures.number c.from_residual-in_err-check.result
+    c.in_err-check.field-0.0 (search rules) (rw (v.0, v.1) at c.in_err-check.ensures) in
     record { answer = way.0; bytes = way.1 }
 
 pub returns-in_err-walk : goal.returns-in_err-walk
 returns-in_err-walk c =
     let a = c.args in
     let v = c.in_ok-sheet.ensures.view in
-    let none = found_none c.walk_aside.result NotValid c.in_err-walk.field-0.0 _ _ c.walk_aside.ensures (search rules) in
-    let way = unrank_astray a.n (lent a.sheet.now) a.from a.to a.k a.path.now c.in_ok-sheet.ensures.number (rw (v.0, v.1) at c.in_ok-check_walk.ensures)
+    let none = found_none c.walk.result NotValid c.in_err-walk.field-0.0 _ _ c.walk.ensures (search rules) in
+    let way = unrank_astray a.n (lent a.sheet.now) a.asked.from a.asked.to a.asked.k a.path.now c.in_ok-sheet.ensures.number (rw (v.0, v.1) at c.in_ok-check.ensures)
     c.from_residual-in_err-walk.result (search (rules, none)) (rw (v.0, v.1) at none.0) in
     record { answer = way.0; bytes = way.1 }
 
@@ -34,7 +34,7 @@ pub returns : goal.returns
 returns c =
     let a = c.args in
     let v = c.in_ok-sheet.ensures.view in
-    let walk = rw (v.0, v.1) at (found_some c.walk_aside.result NotValid c.in_ok-walk.walk _ _ c.walk_aside.ensures (search rules)) in
-    let way = unrank_arrived a.n (lent a.sheet.now) a.from a.to a.k a.path.now c.in_ok-sheet.ensures.number (rw (v.0, v.1) at c.in_ok-check_walk.ensures)
+    let walk = rw (v.0, v.1) at (found_some c.walk.result NotValid c.in_ok-walk.walk _ _ c.walk.ensures (search rules)) in
+    let way = unrank_arrived a.n (lent a.sheet.now) a.asked.from a.asked.to a.asked.k a.path.now c.in_ok-sheet.ensures.number (rw (v.0, v.1) at c.in_ok-check.ensures)
     _ _ walk (cc c.copy_from_slice.ensures.after) in
-    record { answer = way.0; bytes = way.1 }
+    record { answer = rw (c.len-2.ensures.value) way.0; bytes = way.1 }

@@ -1,6 +1,0 @@
--- `query::walk::walk_aside` meets its contract: the vertices kept and the walk from the vertex reached make the walk. Assumes nothing.
-use Rattle.query.proofs.AsideLaws.{Walking}
-use Rattle.query.proofs.walk.walk_aside.Given as goal
-
-abbrev pub invariant-loop-count : goal.invariant-loop-count
-invariant-loop-count l = Walking l.sheet.n l.sheet.words.now l.from l.to l.k l.at l.left l.count l.aside
