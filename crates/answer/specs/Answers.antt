@@ -48,7 +48,7 @@ answer_of (Err e) = answer (number_of_refusal e) 0 0
 abbrev pub refused_at : Refusal → Option ℕ → RefusedAt
 refused_at e p = record { refusal = e; place = p }
 
--- the number and the place of an outcome that may name a record: 0 where nothing was refused
+-- the number and the place of an outcome that may name a record: 0 where nothing was refused, and the place too where no record is named
 abbrev pub number_at : {A : Type 0} → Result A RefusedAt → ℕ
 number_at (Ok a) = 0
 number_at (Err e) = number_of_refusal e.refusal
