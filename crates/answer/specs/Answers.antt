@@ -1,5 +1,5 @@
 -- What a call answers: a number, a place and a value (document 01). Definitions only. Assumes nothing.
-use Rattle.std.specs.Prelude.{ℕ, zero, suc, Result, Ok, Err}
+use Rattle.std.specs.Prelude.{ℕ, zero, suc, Option, unwrap_or, Result, Ok, Err}
 use Rattle.answer.specs.declared.Answer.{Answer}
 use Rattle.answer.specs.declared.Refusal.{Refusal}
 use Rattle.answer.specs.declared.RefusedAt.{RefusedAt}
@@ -44,20 +44,20 @@ abbrev pub answer_of : Result ℕ Refusal → Answer
 answer_of (Ok v) = answer 0 0 v
 answer_of (Err e) = answer (number_of_refusal e) 0 0
 
--- a refusal of the record at a place, or at the place 0 one that names no record
-abbrev pub refused_at : Refusal → ℕ → RefusedAt
+-- a refusal of the record at a place, from 1 up, or with None one that names no record
+abbrev pub refused_at : Refusal → Option ℕ → RefusedAt
 refused_at e p = record { refusal = e; place = p }
 
--- the number and the place of an outcome that may name a record: 0 where nothing was refused
+-- the number and the place of an outcome that may name a record: 0 where nothing was refused, and the place too where no record is named
 abbrev pub number_at : {A : Type 0} → Result A RefusedAt → ℕ
 number_at (Ok a) = 0
 number_at (Err e) = number_of_refusal e.refusal
 
 abbrev pub place_at : {A : Type 0} → Result A RefusedAt → ℕ
 place_at (Ok a) = 0
-place_at (Err e) = e.place
+place_at (Err e) = unwrap_or e.place 0
 
 -- the answer of a call that has this outcome
 abbrev pub answer_at : Result ℕ RefusedAt → Answer
 answer_at (Ok v) = answer 0 0 v
-answer_at (Err e) = answer (number_of_refusal e.refusal) e.place 0
+answer_at (Err e) = answer (number_of_refusal e.refusal) (unwrap_or e.place 0) 0

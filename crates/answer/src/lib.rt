@@ -1,7 +1,7 @@
 // What every call answers, and why calls refuse.
 #![tactic(auto)]
 
-ghost use Rattle.std.specs.Prelude.{◌≡◌, ℕ, Result};
+ghost use Rattle.std.specs.Prelude.{◌≡◌, ℕ, None, Result};
 ghost use Rattle.answer.specs.declared.Refusal.{Refusal};
 ghost use Rattle.answer.specs.Answers.{number_of_refusal, answer_of, refused_at, answer_at};
 
@@ -49,7 +49,7 @@ impl Refusal {
 }
 
 // An answer: the number is 0 for accepted, else that of the refusal; the place is the refused record of a plan, from 1 up,
-// else 0; the value is what was asked for, and 0 when refused.
+// else 0; the value is what was asked for, and 0 when refused. It crosses to C as three words, so the refusal is a number in it.
 #[repr(C)]
 #[derive(Clone, Copy, Debug, PartialEq, Eq)]
 pub struct Answer {
@@ -58,19 +58,22 @@ pub struct Answer {
     pub value: u64,
 }
 
-// Why a call refuses, and the place of the record of a plan that it refuses, from 1 up; 0 where it names no record.
+// Why a call refuses, and the place of the record of a plan that it refuses, from 1 up; `None` where it names no record.
 #[derive(Clone, Copy, Debug, PartialEq, Eq)]
 pub struct RefusedAt {
     pub refusal: Refusal,
-    pub place: u64,
+    pub place: Option<u64>,
 }
 
 // Internal: a refusal that names no record.
 impl From<Refusal> for RefusedAt {
-    ghost from_gives = { λ refusal made. made ≡ refused_at refusal 0 };
+    ghost from_gives = { λ refusal made. made ≡ refused_at refusal None };
 
     fn from(refusal: Refusal) -> RefusedAt {
-        RefusedAt { refusal, place: 0 }
+        RefusedAt {
+            refusal,
+            place: None,
+        }
     }
 }
 
@@ -87,7 +90,7 @@ impl From<Result<u64, RefusedAt>> for Answer {
             },
             Err(refused) => Answer {
                 number: refused.refusal.number(),
-                place: refused.place,
+                place: refused.place.unwrap_or(0),
                 value: 0,
             },
         }
@@ -105,6 +108,8 @@ impl From<Result<u64, Refusal>> for Answer {
 
 impl Answer {
     // Internal: the outcome of a call that names no record: its value, or why it refuses. Of any other answer it says nothing.
+    // Each number has its arm, since no conversion leads from a number to an enum. There is no error for a `TryFrom` to give: a number
+    // that is no refusal's is that of an accepted call.
     pub fn outcome(self) -> Result<u64, Refusal>
         ensures { (was : Result ℕ Refusal) → self ≡ answer_of was → result ≡ was }
     {

@@ -6,7 +6,7 @@ use Prim.Native.Nat.{ℕ, suc, ◌+◌, ◌/◌, ◌%◌, ◌≤◌}
 use native.Mathlib.Omega.{arith}
 use lib.ListN.{length, get_or}
 use lib.Seq.{ext_get_or}
-use Rattle.std.proofs.Common.{Result, Ok, Err}
+use Rattle.std.proofs.Common.{Some, unwrap_or, Result, Ok, Err}
 use Rattle.record.specs.declared.Record.TheVariants.{Insert, Delete}
 use Rattle.record.specs.Record.{Reading}
 use Rattle.record.specs.Reader.{records_from}
@@ -95,7 +95,7 @@ module _ (n : ℕ) (s : Lent) (plan : List ℕ) where
       opens = was.goes_on ∙ ap (λ (m : List Reading). applied n m t (suc k)) more
 
       pub applying_refused : {A : Type 0} (e : Refusal) → number_of_refusal e ≡ number_on n t x → (i : ℕ) → i ≡ k
-          → Reached {A = A} (applied_plan n s plan) (Err (refused_at e (i + 1))) u
+          → Reached {A = A} (applied_plan n s plan) (Err (refused_at e (Some (i + 1)))) u
       applying_refused e ee i ei =
           let d : ¬ (number_on n t x ≡ 0) = λ z. refusal_some e (ee ∙ z) in
           let f = opens ∙ applied_here n x l t (suc k) d in
@@ -124,11 +124,11 @@ module _ {A : Type 0} (n : ℕ) (s plan : List ℕ) (o : Result A RefusedAt) (t 
   -- the words kept aside are those of s, and put back they are s
   pub all_refused : (e : RefusedAt) → o ≡ Err e → (z kept u : List ℕ) (m : ℕ) → m ≡ length s → length s ≤ length z
       → kept ≡ over z 0 (λ (j : ℕ). get_or s j 0) m → length t ≡ length s → u ≡ over t 0 (λ (j : ℕ). get_or kept j 0) m
-      → AppliedAll n (lent s) plan (answer (number_of_refusal e.refusal) e.place 0) (lent u)
+      → AppliedAll n (lent s) plan (answer (number_of_refusal e.refusal) (unwrap_or e.place 0) 0) (lent u)
   all_refused e eo z kept u m em w ek et eu =
       let some : ¬ (number_of_refusal e.refusal ≡ 0) = refusal_some e.refusal in
       let en : number_of_refusal e.refusal ≡ reached.number = ap number_at (sym eo) ∙ h.number in
-      let ep : e.place ≡ reached.place = ap place_at (sym eo) ∙ h.place in
+      let ep : unwrap_or e.place 0 ≡ reached.place = ap place_at (sym eo) ∙ h.place in
       record {
         answered = ap₂ (λ (x y : ℕ). answer x y 0) en ep ∙ ap (answer reached.number reached.place) (sym (decided_old reached.number _ 0 (λ q. some (en ∙ q))));
         left = ap lent back ∙ sym (decided_old (number_of_refusal e.refusal) _ (lent s) some);

@@ -1,5 +1,5 @@
 -- The ways out of the calls. Assumes nothing.
-use Rattle.std.proofs.Common.{◌≡◌, Result, Err, inr, List, [], ◌∷◌, ℕ, ◌*◌, ◌≤◌, length, refl, sym, ap, ◌∙◌, arith}
+use Rattle.std.proofs.Common.{◌≡◌, None, Result, Err, inr, List, [], ◌∷◌, ℕ, ◌*◌, ◌≤◌, length, refl, sym, ap, ◌∙◌, arith}
 use Rattle.text.specs.Text.{written}
 use Rattle.answer.specs.declared.Refusal.{Refusal}
 use Rattle.answer.specs.declared.RefusedAt.{RefusedAt}
@@ -26,7 +26,8 @@ module _ (n : ℕ) (s : Lent) (shape : Lends n s) where
 -- ---- read_plan
 
 module _ (n : ℕ) (s : Lent) (plan : List ℕ) where
-  pub read_stops : (o : Result ℕ RefusedAt) (e : Refusal) → o ≡ Err (refused_at e 0) → First (read_conditions n s plan) (number_of_refusal e) → ReadPlan n s plan (answer_at o) s
+  pub read_stops : (o : Result ℕ RefusedAt) (e : Refusal) → o ≡ Err (refused_at e None)
+      → First (read_conditions n s plan) (number_of_refusal e) → ReadPlan n s plan (answer_at o) s
   read_stops o e eo f = rw eo record {
     k = number_of_refusal e;
     first = f;

@@ -39,7 +39,7 @@ fn apply(n: usize, sheet: &mut [u64], plan: &[u8]) -> Result<(), RefusedAt>
     for (k, record) in PlanReader::at(plan, 0).enumerate() {
         apply_record(n, sheet, record).map_err(|refusal| RefusedAt {
             refusal,
-            place: k as u64 + 1,
+            place: Some(k as u64 + 1),
         })?;
     }
     Ok(())

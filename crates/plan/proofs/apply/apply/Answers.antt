@@ -1,5 +1,5 @@
 -- `plan::apply::apply` meets its contract: each way out of the loop, and round it, is a law of ApplyLaws. Assumes nothing.
-use Rattle.std.proofs.Common.{◌≡◌, ◌+◌, Ok, Err, rules}
+use Rattle.std.proofs.Common.{◌≡◌, ◌+◌, Some, Ok, Err, rules}
 use Rattle.answer.specs.declared.Refusal.{Refusal}
 use Rattle.answer.specs.Answers.{refused_at}
 use Rattle.plan.proofs.ApplyLaws.{applying_start, applying_end, applying_refused, applying_more}
@@ -14,7 +14,7 @@ loop-k-init c =
 pub returns-in_err-map_err : goal.returns-in_err-map_err
 returns-in_err-map_err c =
     let given = c.in-Some.ensures.steps in
-    let refused : (e : Refusal) × (c.apply_record.result ≡ Err e) × (c.from_residual.result ≡ Err (refused_at e (c.in-Some.k + 1)))
+    let refused : (e : Refusal) × (c.apply_record.result ≡ Err e) × (c.from_residual.result ≡ Err (refused_at e (Some (c.in-Some.k + 1))))
     = search rules in
     let told = rw refused.1 at c.apply_record.ensures.number in
     rw refused.2 (search applying_refused)
