@@ -6,12 +6,17 @@ use Rattle.edit_counts.proofs.EditedCounts.{factors_all}
 use Rattle.edit_counts.proofs.edges.EdgesAt.from_factors.Goals as goal
 
 pub loop-j-init : goal.loop-j-init
-loop-j-init c = puts_none _ _ _
+loop-j-init c = (refl, puts_none _ _ _)
 
 pub loop-j-preserved : goal.loop-j-preserved
-loop-j-preserved c =
-    puts_more _ _ _ _ _ _ _ c.loop-j.invariant refl
-    (c.from_factor.ensures ∙ ap (from_factor c.args.self.inserts _) (c.counts_from-y-items.ensures.counts c.loop-j.j (omega (arith, c.counts_from-y-items.ensures.long))))
+loop-j-preserved c = (
+  c.loop-j.invariant.0,
+  puts_more _ _ _ _ _ _ _ c.loop-j.invariant.1 refl
+      (c.from_factor.ensures ∙ ap (from_factor c.args.self.inserts _) (c.counts_from-y-items.ensures.counts c.loop-j.j (omega (arith, c.counts_from-y-items.ensures.long)))),
+)
 
 pub returns : goal.returns
-returns c = factors_all _ _ _ _ _ _ _ _ _ (omega arith) c.loop-j.invariant (omega (arith, c.counts_from-y-items.ensures.long))
+returns c = record {
+  t = c.loop-j.invariant.0;
+  u = factors_all _ _ _ _ _ _ _ _ _ (omega arith) c.loop-j.invariant.1 (omega (arith, c.counts_from-y-items.ensures.long));
+}
