@@ -71,10 +71,9 @@ impl<'a> Asked<'a> {
         ensures { Reflects result (SomeOf self.entry.sheet.n self.entry.edges.predecessors (λ (i : ℕ). edge_at self.entry.sheet.words.now i self.entry.edges.v ≡ one_if self.entry.edges.inserts)) }
     {
         let edges = self.edges;
-        let sheet = self.sheet;
         some_of(
             edges.predecessors,
-            |i| word::test_bit(refused_bits(edges.inserts, sheet.row(i)), edges.v),
+            |i| word::test_bit(refused_bits(edges.inserts, self.sheet.row(i)), edges.v),
         )
     }
 
@@ -82,11 +81,10 @@ impl<'a> Asked<'a> {
     fn some_edge(self) -> bool
         ensures { Reflects result (SomeEdge self.entry.sheet.n (at self.entry.edges.v self.entry.edges.predecessors self.entry.edges.successors) (λ (i j : ℕ). edge_at self.entry.sheet.words.now i j ≡ one_if self.entry.edges.inserts)) }
     {
-        let edges = self.edges;
         if self.some_into() {
             return true;
         }
-        edges.successors & refused_bits(edges.inserts, self.sheet.row(edges.v)) != 0
+        self.edges.successors & refused_bits(self.edges.inserts, self.sheet.row(self.edges.v)) != 0
     }
 
     // Whether the counts show a path that the edges would close to a cycle: from v to a predecessor, or from a successor to v or to a
@@ -113,7 +111,9 @@ impl<'a> Asked<'a> {
             }
             return Ok(());
         }
-        if word::test_bit(edges.predecessors, edges.v) || word::test_bit(edges.successors, edges.v) {
+        if word::test_bit(edges.predecessors, edges.v)
+            || word::test_bit(edges.successors, edges.v)
+        {
             return Err(Refusal::SelfLoop);
         }
         if self.some_edge() {
