@@ -60,12 +60,12 @@ fn add_multiple(words: &mut [u64], x: u64, t: &[u64; Sheet::VERTICES])
     }
 }
 
-// What the edit adds multiples of to the counts from each vertex, at each vertex j below n.
+// What an edit adds multiples of to the counts from a vertex: at each j below n, a word of t and a word of u for the count to j.
 #[derive(Drop)]
 struct Sums {
     // The sums T over the successors.
     t: [u64; Sheet::VERTICES],
-    // What F is multiplied by in the counts to j, if there are predecessors.
+    // What F is multiplied by, if there are predecessors.
     u: [u64; Sheet::VERTICES],
 }
 
