@@ -16,4 +16,6 @@ some_meets-requires c =
     rw (c.args.self.same, c.set_bit-ends.ensures) (e.successors_fit, set_below _ _ _ e.vertex_fits e.predecessors_fit)
 
 pub returns : goal.returns
-returns c = cycle_out _ c.args.self.sheet.words.now _ _ _ _ c.meets.ensures _ _ (omega arith) c.if-meets.false c.set_bit-ends.ensures c.some_meets.ensures
+returns c =
+    cycle_out _ c.args.self.sheet.words.now _ _ _ _ c.meets.ensures _ _ (omega arith) c.if-meets.false c.set_bit-ends.ensures
+    c.some_meets.ensures
