@@ -89,7 +89,7 @@ module _ (n : ℕ) (s : List ℕ) (v a b : ℕ) (t : Bool) (p : Reflects t (Meet
       back (out i hi o x) = (i, hi, omega arith, (v, h, ap (λ y. bit y v) em ∙ bit_set_same a v, x))
       back (through k i hk hi ok oi x) = (i, hi, omega arith, (k, hk, kept k (omega arith), x))
 
--- ---- check_edges
+-- ---- check
 
 module _ (n : ℕ) (s : Lent) (v a b : ℕ) (inserts : Bool) where
   abbrev Gives : ℕ → Type 0

@@ -37,29 +37,6 @@ fn some_of<F: Fn(usize) -> bool>(mask: u64, test: F) -> bool
     false
 }
 
-// Whether an insertion finds one of the edges to v, or a deletion misses one.
-#[tactic(auto, using(word::proofs::BitLaws::bit_one_lt))]
-fn some_into(edges: EdgesAt, sheet: View) -> bool
-    requires { sheet.n ≡ edges.n }
-    ensures { Reflects result (SomeOf sheet.entry.n edges.predecessors (λ (i : ℕ). edge_at sheet.entry.words.now i edges.v ≡ one_if edges.inserts)) }
-{
-    some_of(
-        edges.predecessors,
-        |i| word::test_bit(refused_bits(edges.inserts, sheet.row(i)), edges.v),
-    )
-}
-
-// Whether an insertion finds one of the edges, or a deletion misses one.
-fn some_edge(edges: EdgesAt, sheet: View) -> bool
-    requires { sheet.n ≡ edges.n }
-    ensures { Reflects result (SomeEdge sheet.entry.n (at edges.v edges.predecessors edges.successors) (λ (i j : ℕ). edge_at sheet.entry.words.now i j ≡ one_if edges.inserts)) }
-{
-    if some_into(edges, sheet) {
-        return true;
-    }
-    edges.successors & refused_bits(edges.inserts, sheet.row(edges.v)) != 0
-}
-
 // Whether a count from x to a vertex of the mask is not 0.
 #[tactic(auto, using(word::proofs::BitLaws::bit_one_lt))]
 fn meets(sheet: View, x: usize, mask: u64) -> bool
@@ -79,38 +56,72 @@ fn some_meets(sheet: View, starts: u64, ends: u64) -> bool
     some_of(starts, |x| meets(sheet, x, ends))
 }
 
-// Whether the counts show a path that the edges would close to a cycle: from v to a predecessor, or from a successor to v or to a
-// predecessor.
-fn closes_cycle(edges: EdgesAt, sheet: View) -> bool
-    requires { sheet.n ≡ edges.n }
-    ensures { Reflects result (Closes sheet.entry.n (count_at sheet.entry.n sheet.entry.words.now) edges.v (bit edges.predecessors) (bit edges.successors)) }
-{
-    if meets(sheet, edges.v, edges.predecessors) {
-        return true;
-    }
-    let ends = word::set_bit(edges.predecessors, edges.v);
-    some_meets(sheet, edges.successors, ends)
+// The edges of an edit, and the sheet that they are inserted into or deleted from.
+#[derive(Clone, Copy)]
+pub(crate) struct Asked<'a> {
+    pub(crate) edges: EdgesAt,
+    pub(crate) sheet: View<'a>,
+    ghost same: { sheet.n ≡ edges.n },
 }
 
-// Why the edges can't be inserted, 5, 6 or 8; or why they can't be deleted, 7.
-pub(crate) fn check_edges(edges: EdgesAt, sheet: View) -> Result<(), Refusal>
-    requires { sheet.n ≡ edges.n }
-    ensures { EditNumber edges.inserts sheet.entry.n (lent sheet.entry.words.now) edges.v edges.predecessors edges.successors (number_of result) }
-{
-    if !edges.inserts {
-        if some_edge(edges, sheet) {
-            return Err(Refusal::Absent);
+impl<'a> Asked<'a> {
+    // Whether an insertion finds one of the edges to v, or a deletion misses one.
+    #[tactic(auto, using(word::proofs::BitLaws::bit_one_lt))]
+    fn some_into(self) -> bool
+        ensures { Reflects result (SomeOf self.entry.sheet.n self.entry.edges.predecessors (λ (i : ℕ). edge_at self.entry.sheet.words.now i self.entry.edges.v ≡ one_if self.entry.edges.inserts)) }
+    {
+        let edges = self.edges;
+        some_of(
+            edges.predecessors,
+            |i| word::test_bit(refused_bits(edges.inserts, self.sheet.row(i)), edges.v),
+        )
+    }
+
+    // Whether an insertion finds one of the edges, or a deletion misses one.
+    fn some_edge(self) -> bool
+        ensures { Reflects result (SomeEdge self.entry.sheet.n (at self.entry.edges.v self.entry.edges.predecessors self.entry.edges.successors) (λ (i j : ℕ). edge_at self.entry.sheet.words.now i j ≡ one_if self.entry.edges.inserts)) }
+    {
+        if self.some_into() {
+            return true;
         }
-        return Ok(());
+        self.edges.successors & refused_bits(self.edges.inserts, self.sheet.row(self.edges.v)) != 0
     }
-    if word::test_bit(edges.predecessors, edges.v) || word::test_bit(edges.successors, edges.v) {
-        return Err(Refusal::SelfLoop);
+
+    // Whether the counts show a path that the edges would close to a cycle: from v to a predecessor, or from a successor to v or to a
+    // predecessor.
+    fn closes_cycle(self) -> bool
+        ensures { Reflects result (Closes self.entry.sheet.n (count_at self.entry.sheet.n self.entry.sheet.words.now) self.entry.edges.v (bit self.entry.edges.predecessors) (bit self.entry.edges.successors)) }
+    {
+        let edges = self.edges;
+        if meets(self.sheet, edges.v, edges.predecessors) {
+            return true;
+        }
+        let ends = word::set_bit(edges.predecessors, edges.v);
+        some_meets(self.sheet, edges.successors, ends)
     }
-    if some_edge(edges, sheet) {
-        return Err(Refusal::Present);
+
+    // Why the edges can't be inserted, 5, 6 or 8; or why they can't be deleted, 7.
+    pub(crate) fn check(self) -> Result<(), Refusal>
+        ensures { EditNumber self.entry.edges.inserts self.entry.sheet.n (lent self.entry.sheet.words.now) self.entry.edges.v self.entry.edges.predecessors self.entry.edges.successors (number_of result) }
+    {
+        let edges = self.edges;
+        if !edges.inserts {
+            if self.some_edge() {
+                return Err(Refusal::Absent);
+            }
+            return Ok(());
+        }
+        if word::test_bit(edges.predecessors, edges.v)
+            || word::test_bit(edges.successors, edges.v)
+        {
+            return Err(Refusal::SelfLoop);
+        }
+        if self.some_edge() {
+            return Err(Refusal::Present);
+        }
+        if self.closes_cycle() {
+            return Err(Refusal::Cycle);
+        }
+        Ok(())
     }
-    if closes_cycle(edges, sheet) {
-        return Err(Refusal::Cycle);
-    }
-    Ok(())
 }

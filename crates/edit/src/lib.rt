@@ -17,6 +17,7 @@ ghost use Rattle.edit.specs.Internal.{Written, MadeAt, edges_of, edit_of};
 mod checks;
 mod rows;
 
+use checks::Asked;
 use edit_counts::EdgesAt;
 use sheet::{Answer, Refusal, View};
 
@@ -69,7 +70,8 @@ fn edit_at(edges: EdgesAt, sheet: &mut [u64]) -> Result<u64, Refusal>
         n: edges.n,
         words: sheet,
     };
-    checks::check_edges(edges, lent)?;
+    let asked = Asked { edges, sheet: lent };
+    asked.check()?;
     Ok(write_edit(edges, sheet))
 }
 

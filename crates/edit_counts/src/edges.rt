@@ -10,8 +10,9 @@ ghost use Rattle.edit_counts.specs.Internal.{Names};
 use answer::Refusal;
 
 // The edges at a vertex v of a sheet of n vertices that are inserted or deleted: those from the vertices of the mask predecessors to v
-// and those from v to the vertices of the mask successors. Whether they are inserted is a flag, as in the formulas of the contracts: a type
-// for each direction would make two laws of each formula.
+// and those from v to the vertices of the mask successors. Whether they are inserted is a flag, as in the formulas of the contracts. A type
+// for each direction, as `Combine` has for adding and taking off, would be a trait of five functions in two impls and a type parameter at
+// every function over the edges, in place of five `if`s.
 #[derive(Clone, Copy)]
 pub struct EdgesAt {
     pub inserts: bool,

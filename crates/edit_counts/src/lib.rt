@@ -54,54 +54,60 @@ fn add_multiple(words: &mut [u64], x: u64, t: &[u64; Sheet::VERTICES])
     if x == 0 {
         return;
     }
-    // By the place and not by `zip(t)`: what is written through an adapter of `iter_mut` is not known after the loop.
+    // By the place and not by `zip(t)`: what is written through `zip` is not known after the loop, so the proof does not close.
     for (j, word) in words.iter_mut().enumerate() {
         *word = word::wrapping_add(*word, word::wrapping_mul(x, t[j]));
     }
 }
 
+// What an edit adds multiples of to the counts from a vertex: at each j below n, a word of t and a word of u for the count to j.
+#[derive(Drop)]
+struct Sums {
+    // The sums T over the successors.
+    t: [u64; Sheet::VERTICES],
+    // What F is multiplied by, if there are predecessors.
+    u: [u64; Sheet::VERTICES],
+}
+
 impl EdgesAt {
-    // The counts from one vertex. u has what F is multiplied by.
-    fn edit_counts_from(
-        self,
-        counts: &mut [u64],
-        t: &[u64; Sheet::VERTICES],
-        u: &[u64; Sheet::VERTICES],
-    )
+    // The counts from one vertex.
+    fn edit_counts_from(self, counts: &mut [u64], sums: &Sums)
         requires { (self.n ≤ most_vertices) × (length counts.old ≡ self.n) }
-        ensures { counts.new ≡ counts_from_edited self.inserts self.n counts.old self.v self.predecessors t.now u.now }
+        ensures { counts.new ≡ counts_from_edited self.inserts self.n counts.old self.v self.predecessors sums.now.t sums.now.u }
     {
         // f comes before x: the other way about, an edit by masks takes some hundredths longer.
         let f = sum_at(counts, self.predecessors);
         let x = counts[self.v];
-        add_multiple(counts, to_factor(self.inserts, x, f), t);
-        add_multiple(counts, f, u);
+        add_multiple(counts, to_factor(self.inserts, x, f), &sums.t);
+        add_multiple(counts, f, &sums.u);
     }
 
     // The first n words of u: at each j, what F is multiplied by in the counts to j. Nothing is written without predecessors, where each F
-    // is 0. u is lent, since an array that is handed out is copied.
-    fn from_factors(self, sheet: View, t: &[u64; Sheet::VERTICES], u: &mut [u64; Sheet::VERTICES])
+    // is 0. The sums are lent, since an array that is handed out is copied.
+    fn from_factors(self, sheet: View, sums: &mut Sums)
         requires { sheet.n ≡ self.n }
-        ensures { Factors self.inserts sheet.entry.n sheet.entry.words.now self.v self.predecessors t.now u.new }
+        ensures t { sums.new.t ≡ sums.old.t }
+        ensures u { Factors self.inserts sheet.entry.n sheet.entry.words.now self.v self.predecessors sums.new.t sums.new.u }
     {
         if self.predecessors == 0 {
             return;
         }
         // By the place, for the reason at `add_multiple`.
         for (j, y) in sheet.counts_from(self.v).iter().enumerate() {
-            u[j] = from_factor(self.inserts, t[j], *y);
+            sums.u[j] = from_factor(self.inserts, sums.t[j], *y);
         }
     }
 
-    // Every count. t has the sums T, and u what F is multiplied by.
-    fn edit_all(self, sheet: &mut [u64], t: &[u64; Sheet::VERTICES], u: &[u64; Sheet::VERTICES])
+    // Every count.
+    // What writes a sheet takes the edges, which have n, and the words, here and below: the reason stands at `View`.
+    fn edit_all(self, sheet: &mut [u64], sums: &Sums)
         requires shape { Shape self.n sheet.old }
-        requires factors { Factors self.inserts self.n sheet.old self.v self.predecessors t.now u.now }
-        ensures { sheet.new ≡ counts_by self.inserts self.n sheet.old self.v self.predecessors t.now }
+        requires factors { Factors self.inserts self.n sheet.old self.v self.predecessors sums.now.t sums.now.u }
+        ensures { sheet.new ≡ counts_by self.inserts self.n sheet.old self.v self.predecessors sums.now.t }
     {
         for i in 0..self.n {
             let from = sheet::layout::counts_start(self.n, i);
-            self.edit_counts_from(&mut sheet[from..from + self.n], t, u);
+            self.edit_counts_from(&mut sheet[from..from + self.n], sums);
         }
     }
 
@@ -115,10 +121,12 @@ impl EdgesAt {
             words: sheet,
         };
         // The sums T are added up where they stand: handed out by a function of their own, they are copied, and an edge takes a tenth longer.
-        let mut t = [0u64; Sheet::VERTICES];
-        lent.combine_counts::<Plus>(0, self.n, self.successors, &mut t);
-        let mut u = [0u64; Sheet::VERTICES];
-        self.from_factors(lent, &t, &mut u);
-        self.edit_all(sheet, &t, &u);
+        let mut sums = Sums {
+            t: [0; Sheet::VERTICES],
+            u: [0; Sheet::VERTICES],
+        };
+        lent.combine_counts::<Plus>(0, self.n, self.successors, &mut sums.t);
+        self.from_factors(lent, &mut sums);
+        self.edit_all(sheet, &sums);
     }
 }

@@ -4,4 +4,4 @@ use Rattle.edit_counts.proofs.EditedCounts.{Editing}
 use Rattle.edit_counts.proofs.edges.EdgesAt.edit_all.Given as goal
 
 abbrev pub invariant-loop-i : goal.invariant-loop-i
-invariant-loop-i l = Editing l.self.inserts l.self.n l.initial.sheet l.self.v l.self.predecessors l.t l.i l.sheet
+invariant-loop-i l = Editing l.self.inserts l.self.n l.initial.sheet l.self.v l.self.predecessors l.sums.t l.i l.sheet

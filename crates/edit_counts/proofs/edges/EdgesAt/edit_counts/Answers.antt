@@ -6,4 +6,4 @@ use Rattle.edit_counts.proofs.edges.EdgesAt.edit_counts.Goals as goal
 pub returns : goal.returns
 returns c =
     let sums = counts_summed _ c.args.sheet.now _ _ c.requires.high c.combine_counts.ensures in
-    search counts_edited_lem
+    counts_edited_lem _ _ _ _ _ _ _ _ c.requires sums (rw c.from_factors.ensures.t at c.edit_all.ensures)
