@@ -29,7 +29,7 @@ fn put_pipes(out: &mut [u8], at: usize, edges: u64) -> usize
     text::put(out, first, b"\n")
 }
 
-// `record`, the place, `refused`, the number of the refusal.
+// `record`, the place, `refused`, the number of its row.
 fn put_refused(out: &mut [u8], at: usize, place: u64, refusal: Refusal) -> usize
     requires { at + length (refused_line place (number_of_refusal refusal)) ≤ length out.old }
     ensures { Put out.old at (refused_line place (number_of_refusal refusal)) out.new result }

@@ -32,8 +32,8 @@ pub fn fill<R: Read>(reader: &mut R, buffer: &mut [u8]) -> io::Result<usize>
     Ok(count)
 }
 
-// The bytes of standard input, at the start of a buffer; none if they fill it, since there may be more.
-fn input<'a>(rt: &impl Input, buffer: &'a mut [u8]) -> io::Result<Option<&'a [u8]>>
+// Internal: the bytes of standard input, at the start of a buffer; none if they fill it, since there may be more.
+pub fn input<'a>(rt: &impl Input, buffer: &'a mut [u8]) -> io::Result<Option<&'a [u8]>>
     ensures { IfOk result (λ taken. IfSome taken (λ bytes. length bytes.now < length buffer.old)) }
 {
     let count = fill(&mut rt.reader(), buffer)?;
