@@ -29,7 +29,7 @@ fn put_pipes(out: &mut [u8], at: usize, edges: u64) -> usize
     text::put(out, first, b"\n")
 }
 
-// `record`, the place, `refused`, the number of its row.
+// `record`, the place, `refused`, the refusal's number.
 fn put_refused(out: &mut [u8], at: usize, place: u64, refusal: Refusal) -> usize
     requires { at + length (refused_line place (number_of_refusal refusal)) ≤ length out.old }
     ensures { Put out.old at (refused_line place (number_of_refusal refusal)) out.new result }
@@ -96,7 +96,7 @@ fn put_lines(sheet: &Sheet, out: &mut [u8], at: usize) -> usize
     place
 }
 
-// What is printed of a plan that is answered so and has left the sheet, in the first places: how many bytes it has.
+// What is printed of a plan that has this outcome and has left the sheet, in the first places: how many bytes it has.
 pub(crate) fn write(outcome: Result<u64, RefusedAt>, sheet: &Sheet, out: &mut [u8]) -> usize
     requires { most_listed ≤ length out.old }
     ensures { Put out.old 0 (printed (answer_at outcome) (lent sheet.now.words)) out.new result }

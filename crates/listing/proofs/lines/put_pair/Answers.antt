@@ -19,7 +19,8 @@ returns-then-i-j c =
 pub put_count-requires : goal.put_count-requires
 put_count-requires c =
     let a = c.args in
-    let room = pair_room a.sheet.now.words a.i a.j _ c.count-count.ensures a.out.now a.at c.if-i-j.false c.if-count-eq0.false c.requires.2 in
+    let count = c.count-count.ensures in
+    let room = pair_room a.sheet.now.words a.i a.j _ count a.out.now a.at c.if-i-j.false c.if-count-eq0.false c.requires.2 in
     (c.requires.0, c.requires.1, room)
 
 pub returns : goal.returns
