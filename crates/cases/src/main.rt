@@ -113,9 +113,5 @@ fn run(rt: &impl Print, text: &[u8]) -> io::Result<()> {
 }
 
 fn main(rt: HostRuntime) -> io::Result<()> {
-    let mut buffer = [0u8; script::INPUT];
-    match script::input(&rt, &mut buffer)? {
-        Some(text) => run(&rt, text),
-        None => println!(rt; "the input is too long"),
-    }
+    script::with_input(&rt, |text| run(&rt, text))
 }

@@ -5,7 +5,7 @@ ghost use Rattle.std.specs.Prelude.{◌≡◌, length, replicate};
 ghost use Rattle.text.specs.Text.{written};
 ghost use Rattle.listing_theory.specs.Listing.{listing, input_bytes};
 
-use sheet::{Sheet, View};
+use sheet::Sheet;
 
 mod digits;
 mod lines;
@@ -37,10 +37,6 @@ pub fn list(plan: &[u8], out: &mut [u8; Listing::BYTES]) -> usize
     ensures bytes { out.new ≡ written (listing plan.now) out.old }
 {
     let mut sheet = Sheet::new();
-    let answer = plan::read_plan(Sheet::VERTICES, &mut sheet.words, plan);
-    let read = View {
-        n: Sheet::VERTICES,
-        words: &sheet.words,
-    };
-    lines::write(answer, read, out)
+    let outcome = plan::apply_plan(Sheet::VERTICES, &mut sheet.words, plan);
+    lines::write(outcome, &sheet, out)
 }

@@ -32,9 +32,5 @@ fn list_graphs(rt: &impl Print, text: &[u8]) -> io::Result<()> {
 }
 
 fn main(rt: HostRuntime) -> io::Result<()> {
-    let mut buffer = [0; script::INPUT];
-    match script::input(&rt, &mut buffer)? {
-        Some(text) => list_graphs(&rt, text),
-        None => println!(rt; "the input is too long"),
-    }
+    script::with_input(&rt, |text| list_graphs(&rt, text))
 }

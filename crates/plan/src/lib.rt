@@ -26,8 +26,8 @@ pub fn read_plan(n: usize, sheet: &mut [u64], plan: &[u8]) -> Answer
     apply_plan(n, sheet, plan).into()
 }
 
-// The work of `read_plan`.
-fn apply_plan(n: usize, sheet: &mut [u64], plan: &[u8]) -> Result<u64, RefusedAt>
+// Internal: the work of `read_plan`: its value, or why it refuses and at which record.
+pub fn apply_plan(n: usize, sheet: &mut [u64], plan: &[u8]) -> Result<u64, RefusedAt>
     ensures { ReadPlan n (lent sheet.old) plan.now (answer_at result) (lent sheet.new) }
 {
     check::check_plan(n, sheet, plan)?;

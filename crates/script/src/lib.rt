@@ -4,6 +4,7 @@
 ghost use Rattle.std.specs.Prelude.{◌≡◌, ◌↔◌, ◌<◌, ◌≤◌, ◌^◌, IfOk, IfSome, IsSome, length, take};
 ghost use Rattle.std.specs.Io.KnownBytes.{Consumes, IsAtEnd};
 ghost use Rattle.std.specs.Str.Parse.{digits_value};
+ghost use Rattle.script.specs.Buffer.{buffer_bytes};
 ghost use Rattle.script.specs.Decimal.{IsDecimal};
 
 use std::io::Read;
@@ -19,6 +20,8 @@ pub fn fill<R: Read>(reader: &mut R, buffer: &mut [u8]) -> io::Result<usize>
     ensures end { IfOk result (λ count. count < length buffer.new → IsAtEnd (R.remaining reader.new)) }
 {
     let mut count = 0;
+
+    // A turn reads as many bytes as the reader has, so no range counts the turns.
     while count < buffer.len() {
         let more = reader.read(&mut buffer[count..])?;
         if more == 0 {
@@ -38,6 +41,20 @@ pub fn input<'a>(rt: &impl Input, buffer: &'a mut [u8]) -> io::Result<Option<&'a
         Ok(Some(&buffer[..count]))
     } else {
         Ok(None)
+    }
+}
+
+// Internal: hands the bytes of standard input to a closure; or, if they fill a buffer of `INPUT` bytes, prints that they are too many.
+pub fn with_input<R: Input + Print, F: FnOnce(&[u8]) -> io::Result<()>>(
+    rt: &R,
+    take: F,
+) -> io::Result<()>
+    requires { (text : _) → length text.now < buffer_bytes → F.pre take text }
+{
+    let mut buffer = [0; INPUT];
+    match input(rt, &mut buffer)? {
+        Some(text) => take(text),
+        None => println!(rt; "the input is too long"),
     }
 }
 

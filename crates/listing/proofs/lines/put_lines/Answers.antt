@@ -9,7 +9,7 @@ unfolding count_lines
 loop-i-init c = search pieces_start
 
 pub put_lines_from-place-requires : goal.put_lines_from-place-requires
-put_lines_from-place-requires c = (c.requires.0, omega arith, pieces_room c.loop-i.invariant (omega arith))
+put_lines_from-place-requires c = (omega arith, pieces_room c.loop-i.invariant (omega arith))
 
 pub loop-i-preserved : goal.loop-i-preserved
 loop-i-preserved c = search pieces_more

@@ -5,4 +5,4 @@ use Rattle.listing_theory.specs.Lines.{lines_from}
 use Rattle.listing.proofs.lines.put_lines.Given as goal
 
 abbrev pub invariant-loop-i : goal.invariant-loop-i
-invariant-loop-i l = Pieces l.fn.out l.at (lines_from l.sheet.words.now) most_vertices l.i l.out l.place
+invariant-loop-i l = Pieces l.fn.out l.at (lines_from l.sheet.words) most_vertices l.i l.out l.place

@@ -9,7 +9,7 @@ unfolding lines_from
 loop-j-init c = search pieces_start
 
 pub put_pair-place-requires : goal.put_pair-place-requires
-put_pair-place-requires c = (c.requires.0, c.requires.1, omega arith, pieces_room c.loop-j.invariant (omega arith))
+put_pair-place-requires c = (c.requires.0, omega arith, pieces_room c.loop-j.invariant (omega arith))
 
 pub loop-j-preserved : goal.loop-j-preserved
 loop-j-preserved c = search pieces_more

@@ -5,4 +5,4 @@ use Rattle.listing_theory.specs.Lines.{pair_line}
 use Rattle.listing.proofs.lines.put_lines_from.Given as goal
 
 abbrev pub invariant-loop-j : goal.invariant-loop-j
-invariant-loop-j l = Pieces l.fn.out l.at (pair_line l.sheet.words.now l.i) most_vertices l.j l.out l.place
+invariant-loop-j l = Pieces l.fn.out l.at (pair_line l.sheet.words l.i) most_vertices l.j l.out l.place

@@ -3,4 +3,6 @@ use Rattle.listing_theory.proofs.LineLaws.{refused_put}
 use Rattle.listing.proofs.lines.put_refused.Goals as goal
 
 pub returns : goal.returns
-returns c = search refused_put
+returns c =
+    let second = rw c.number.ensures at c.put_labelled-second.ensures in
+    search (refused_put, second)
