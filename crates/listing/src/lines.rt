@@ -106,6 +106,6 @@ pub(crate) fn write(outcome: Result<u64, RefusedAt>, sheet: &Sheet, out: &mut [u
             let first = put_pipes(out, 0, edges);
             put_lines(sheet, out, first)
         }
-        Err(refused) => put_refused(out, 0, refused.place, refused.refusal),
+        Err(refused) => put_refused(out, 0, refused.place.unwrap_or(0), refused.refusal),
     }
 }

@@ -6,7 +6,7 @@ use Rattle.listing_theory.proofs.LineLaws.{refused_le, pipes_le, lines_le, print
 use Rattle.listing.proofs.lines.write.Goals as goal
 
 pub put_refused-requires : goal.put_refused-requires
-put_refused-requires c = omega (arith, refused_le c.in-Err.refused.place (number_of_refusal c.in-Err.refused.refusal))
+put_refused-requires c = omega (arith, refused_le c.unwrap_or.result (number_of_refusal c.in-Err.refused.refusal))
 
 pub put_pipes-first-requires : goal.put_pipes-first-requires
 put_pipes-first-requires c = omega (arith, pipes_le c.in-Ok.edges)
@@ -24,4 +24,4 @@ pub returns-in-Err : goal.returns-in-Err
 returns-in-Err c =
     let answered = answer_at (Err c.in-Err.refused) in
     let some = refusal_some c.in-Err.refused.refusal in
-    rw c.in-Err.is (printed_refused answered _ c.args.out.now _ _ some c.put_refused.ensures)
+    rw c.in-Err.is (printed_refused answered _ c.args.out.now _ _ some (rw c.unwrap_or.ensures at c.put_refused.ensures))
