@@ -72,9 +72,10 @@ module _ (n : ℕ) (s : List ℕ) (i c mask : ℕ) where
   by_place : (P : ℕ → Type 0) → ((j : ℕ) → j < 16 → P (c + j)) → (j : ℕ) → c ≤ j → j < c + 16 → P j
   by_place P h j low high = let e : c + (j - c) ≡ j = omega arith in subst P e (h (j - c) (omega arith))
 
-  pub part_filled : (t u : List ℕ) (base : ℕ) → CountsFrom n i base → BlockCounted n s i c mask t → u ≡ over s (base + c) (λ (j : ℕ). get_or t j 0) 16
-      → u ≡ with_counts n s i c 16 (λ (j : ℕ). count_by_mask n s i j mask)
-  part_filled t u base at counted e = counts_written n s i c 16 _ u (base + c) _ e (ap (λ (b : ℕ). b + c) at.is) counted.counts
+  pub part_filled : (t u : List ℕ) (base : ℕ) → CountsFrom n i base → BlockCounted n s i c mask t
+      → u ≡ over s (base + c) (λ (j : ℕ). get_or t j 0) (length t) → u ≡ with_counts n s i c 16 (λ (j : ℕ). count_by_mask n s i j mask)
+  part_filled t u base at counted e =
+      counts_written n s i c 16 _ u (base + c) _ (e ∙ ap (over s (base + c) _) counted.long) (ap (λ (b : ℕ). b + c) at.is) counted.counts
 
   -- nothing is left of a count exactly if it is what is taken off
   left_none : (a d S : ℕ) → a < 2 ^ 64 → minus (minus a d) S ≡ 0 → a ≡ (d + S) % 2 ^ 64

@@ -162,7 +162,7 @@ fn fill_part(n: usize, sheet: &mut [u64], i: usize, c: usize, mask: u64, unit: &
         unit,
     };
     let t = block.counts(i, mask);
-    sheet::words::copy_words(COLUMNS, &t, sheet, sheet::layout::counts_start(n, i) + c);
+    sheet::words::copy_words(&t, sheet, sheet::layout::counts_start(n, i) + c);
 }
 
 // The counts from every vertex to the columns from c on, written in the order given. A struct can't hold the order with the `&mut` either:

@@ -66,7 +66,7 @@ fn fill_counts_from(n: usize, sheet: &mut [u64], v: usize)
     ensures { sheet.new ≡ with_counts n sheet.old v 0 n (successors_sum n sheet.old v) }
 {
     let t = sum_successors(View { n, words: sheet }, v);
-    sheet::words::copy_words(n, &t, sheet, sheet::layout::counts_start(n, v));
+    sheet::words::copy_words(&t[..n], sheet, sheet::layout::counts_start(n, v));
 }
 
 // Internal: the counts, in the order given, vertex by vertex. A struct can't hold the order with the `&mut` either: it is an order of the
