@@ -148,6 +148,7 @@ fn leading_successors(i: usize, row: u64, leading: &mut u64) -> u64
 }
 
 // Where the block of columns begins that holds column c and those after it: at c, or earlier where fewer than COLUMNS are left.
+// A sheet of COLUMNS vertices or more has no type of its own: it would be a `View`, and where the sheet is written there is none.
 fn block_at(n: usize, c: usize) -> usize
     requires { (columns ≤ n) × (n ≤ most_vertices) × (c < n) }
     ensures { BlockAt n c result }
@@ -167,9 +168,9 @@ fn fill_part(n: usize, sheet: &mut [u64], to: Columns, i: usize, mask: u64)
     sheet::words::copy_words(&t, sheet, sheet::layout::counts_start(n, i) + to.c);
 }
 
-// The counts from every vertex to the columns, written in the order given. A struct can't hold the order with the `&mut` either:
-// it is an order of the sheet as it was lent. `Block::holds` and `blocks_hold` walk as this and `fill_blocks` do: a walk for both would
-// hold the sheet that these write, and masks kept for a second loop cost a ninth of the time on sparse sheets, as tried in C.
+// The counts from every vertex to the columns, written in the order given. A struct can't hold the order with the `&mut` either: it is an
+// order of the sheet as it was lent. `Block::holds` and `blocks_hold` walk alike. One walk for both would borrow the rows of the sheet
+// while this writes its counts; with rows and counts as two slices, what reads a sheet, `View`, would be there twice.
 fn fill_block(n: usize, sheet: &mut [u64], to: Columns, order: &[usize])
     requires { (Shape n sheet.old) × (to.c + columns ≤ n) × (Ordered n sheet.old order.now) }
     ensures { ColumnsFilled n sheet.old to.entry.c columns sheet.new }
