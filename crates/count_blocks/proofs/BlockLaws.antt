@@ -17,7 +17,7 @@ use Rattle.word.proofs.WrapLaws.{minus_lt, minus_add, minus_congruent}
 use Rattle.word.specs.Combine.{Wraps}
 use Rattle.word.proofs.CountLaws.{sum_no_bits}
 use Rattle.answer.specs.Table.{Reflects}
-use Rattle.sheet_theory.specs.Layout.{row_at, count_at, edge_at}
+use Rattle.sheet_theory.specs.Layout.{Shape, row_at, count_at, edge_at}
 use Rattle.sheet.specs.Fill.{over}
 use Rattle.sheet.specs.Internal.{CountsFrom, combined, SumsBy, with_counts}
 use Rattle.sheet_theory.specs.Internal.{successors_sum}
@@ -26,7 +26,7 @@ use Rattle.sheet.proofs.WordsLaws.{combined_long, combined_at, counts_written, c
 use Rattle.sheet_theory.proofs.LayoutLaws.{from_within, rows_within}
 use Rattle.vertex_counts.specs.Internal.{SameWords, ColumnsFilled}
 use Rattle.order.specs.Internal.{vertex_at, Ordered}
-use Rattle.count_blocks.specs.Internal.{UnitWords, OwnBy, count_by_mask, BlockCounted, PartHolds, BlockReady, BlockHolds, HasColumns, Led}
+use Rattle.count_blocks.specs.Internal.{UnitWords, OwnBy, count_by_mask, BlockCounted, PartHolds, BlockHolds, HasColumns, Led}
 use Rattle.vertex_counts.proofs.FilledLaws.{Filled, filled_more, filled_all, same_ordered}
 
 -- ---- the path from a vertex to itself
@@ -72,9 +72,10 @@ module _ (n : ℕ) (s : List ℕ) (i c mask : ℕ) where
   by_place : (P : ℕ → Type 0) → ((j : ℕ) → j < 16 → P (c + j)) → (j : ℕ) → c ≤ j → j < c + 16 → P j
   by_place P h j low high = let e : c + (j - c) ≡ j = omega arith in subst P e (h (j - c) (omega arith))
 
-  pub part_filled : (t u : List ℕ) (base : ℕ) → CountsFrom n i base → BlockCounted n s i c mask t → u ≡ over s (base + c) (λ (j : ℕ). get_or t j 0) 16
-      → u ≡ with_counts n s i c 16 (λ (j : ℕ). count_by_mask n s i j mask)
-  part_filled t u base at counted e = counts_written n s i c 16 _ u (base + c) _ e (ap (λ (b : ℕ). b + c) at.is) counted.counts
+  pub part_filled : (t u : List ℕ) (base : ℕ) → CountsFrom n i base → BlockCounted n s i c mask t
+      → u ≡ over s (base + c) (λ (j : ℕ). get_or t j 0) (length t) → u ≡ with_counts n s i c 16 (λ (j : ℕ). count_by_mask n s i j mask)
+  part_filled t u base at counted e =
+      counts_written n s i c 16 _ u (base + c) _ (e ∙ ap (over s (base + c) _) counted.long) (ap (λ (b : ℕ). b + c) at.is) counted.counts
 
   -- nothing is left of a count exactly if it is what is taken off
   left_none : (a d S : ℕ) → a < 2 ^ 64 → minus (minus a d) S ≡ 0 → a ≡ (d + S) % 2 ^ 64
@@ -195,26 +196,26 @@ pub record Filling (n : ℕ) (s l : List ℕ) (c k leading : ℕ) (t : List ℕ)
   pub filled : Filled n s (vertex_at l) c 16 k t
   pub led : Unled n t (vertex_at l) c k leading
 
-module _ (n : ℕ) (s l u : List ℕ) (h : Ordered n s l) (c : ℕ) (ready : BlockReady n s c u) (t : List ℕ) (k leading : ℕ)
+module _ (n : ℕ) (s l : List ℕ) (h : Ordered n s l) (c : ℕ) (shape : Shape n s) (within : c + 16 ≤ n) (t : List ℕ) (k leading : ℕ)
     (f : Filling n s l c k leading t) where
   -- the next vertex has a row
   pub filling_row : k < length l → vertex_at l k < length t
-  filling_row hk = omega (arith, h.order.vertex k (omega (arith, h.long)), f.filled.long, rows_within ready.shape)
+  filling_row hk = omega (arith, h.order.vertex k (omega (arith, h.long)), f.filled.long, rows_within shape)
 
   pub filling_more : (v : List ℕ) (mask r : ℕ) → k < length l
       → v ≡ with_counts n t (vertex_at l k) c 16 (λ (j : ℕ). count_by_mask n t (vertex_at l k) j mask)
       → mask ≡ bit_and (row_at t (vertex_at l k)) leading → Led (vertex_at l k) leading mask r → Filling n s l c (k + 1) r v
   filling_more v mask r q p em led = let hk : k < n = omega (arith, h.long) in record {
-    filled = filled_more n s l h ready.shape c 16 ready.within t v k hk f.filled
+    filled = filled_more n s l h shape c 16 within t v k hk f.filled
         (counts_as _ _ _ _ _ _ _ p _ (led_sum n t l c k leading mask em (same_ordered n s t f.filled.long f.filled.rows l h) hk f.led));
     led = unled_more n t v (vertex_at l) c k leading _ r f.led led
         (counts_in _ _ _ _ _ _ _ p
-        (omega (arith, from_within n (vertex_at l k) (h.order.vertex k hk), f.filled.long, ready.shape.long, ready.within)))
-        (λ a j d low high. counts_stay _ _ _ _ _ _ _ p ready.within a j (omega (arith, ready.within)) (λ e. absurd (d e)));
+        (omega (arith, from_within n (vertex_at l k) (h.order.vertex k hk), f.filled.long, shape.long, within)))
+        (λ a j d low high. counts_stay _ _ _ _ _ _ _ p within a j (omega (arith, within)) (λ e. absurd (d e)));
   }
 
   pub filling_all : length l ≤ k → ColumnsFilled n s c 16 t
-  filling_all e = filled_all n s l h ready.shape c 16 ready.within t k f.filled e
+  filling_all e = filled_all n s l h shape c 16 within t k f.filled e
 
 -- ---- the counts of a block compared
 

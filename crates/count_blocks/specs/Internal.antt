@@ -3,7 +3,7 @@
 use Rattle.std.specs.Prelude.{◌≡◌, ℕ, ◌+◌, ◌*◌, ◌%◌, ◌^◌, ◌<◌, ◌≤◌, ◌⊎◌, List, length, ◌≢◌, slice_index, Option, Some, None}
 use Rattle.sums.specs.Sum.{sum, delta}
 use Rattle.word.specs.Bit.{bit}
-use Rattle.sheet_theory.specs.Layout.{Shape, count_at}
+use Rattle.sheet_theory.specs.Layout.{count_at}
 use Rattle.sheet_theory.specs.Internal.{successors_sum}
 
 -- how many columns a block has
@@ -23,12 +23,6 @@ pub record UnitWords (u : List ℕ) : Type 0 where
 abbrev pub PlaceOf : ℕ → ℕ → Option ℕ → Type 0
 PlaceOf i c (Some r) = (r < columns) × (i ≡ c + r)
 PlaceOf i c None = (i < c) ⊎ (c + columns ≤ i)
-
--- s is a sheet of n vertices, the block from c on lies within the n columns, and u has the words of `UnitWords`
-pub record BlockReady (n : ℕ) (s : List ℕ) (c : ℕ) (u : List ℕ) : Type 0 where
-  pub shape : Shape n s
-  pub within : c + columns ≤ n
-  pub unit : UnitWords u
 
 -- u is t, which has words of 64 bits, with one added or taken off at the place of i, if it is among the columns from c on: op is `plus`
 -- or `minus`

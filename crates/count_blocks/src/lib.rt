@@ -11,7 +11,7 @@ ghost use Rattle.order.specs.Internal.{Ordered};
 ghost use Rattle.vertex_counts.specs.Internal.{SameWords, counted, ColumnsFilled};
 ghost use Rattle.sheet.specs.Internal.{with_counts};
 ghost use Rattle.count_blocks.specs.Internal.{columns, UnitWords, PlaceOf, OwnBy, count_by_mask, BlockCounted, PartHolds};
-ghost use Rattle.count_blocks.specs.Internal.{HasColumns, Led, BlockAt, BlockReady, BlockHolds};
+ghost use Rattle.count_blocks.specs.Internal.{HasColumns, Led, BlockAt, BlockHolds};
 
 use sheet::View;
 use word::{Combine, Minus, Plus};
@@ -33,45 +33,51 @@ fn unit_words() -> [u64; UNIT_WORDS]
     unit
 }
 
-// A block of a sheet that is lent to be read: its columns are those from c on. With it go the words of `unit_words`.
+// The columns of a block, those from c on, with the words of `unit_words`.
+#[derive(Clone, Copy)]
+struct Columns<'b> {
+    c: usize,
+    unit: &'b [u64],
+    ghost made: { UnitWords unit.now },
+}
+
+// A block of a sheet that is lent to be read: the counts to its columns.
 #[derive(Clone, Copy)]
 struct Block<'a, 'b> {
     sheet: View<'a>,
-    c: usize,
-    unit: &'b [u64],
-    ghost within: { c + columns ≤ sheet.n },
-    ghost made: { UnitWords unit.now },
+    to: Columns<'b>,
+    ghost within: { to.c + columns ≤ sheet.n },
 }
 
 impl<'a, 'b> Block<'a, 'b> {
     // The place of i among the columns, if it is one of them. Where i is before them the difference is beyond every place: one test tells.
     fn place_of(self, i: usize) -> Option<usize>
         requires { i < most_vertices }
-        ensures { PlaceOf i self.entry.c result }
+        ensures { PlaceOf i self.entry.to.c result }
     {
-        let place = i.wrapping_sub(self.c);
+        let place = i.wrapping_sub(self.to.c);
         if place < COLUMNS { Some(place) } else { None }
     }
 
     // The path from i to itself, combined with the counts from i to the columns: added to them, or taken off.
     fn combine_own<C: Combine>(self, i: usize, t: &mut [u64; COLUMNS])
         requires { i < most_vertices }
-        ensures { OwnBy C.op i self.entry.c t.old t.new }
+        ensures { OwnBy C.op i self.entry.to.c t.old t.new }
     {
         if let Some(place) = self.place_of(i) {
             let from = COLUMNS - place;
-            sheet::words::combine_words::<C>(&self.unit[from..from + COLUMNS], t);
+            sheet::words::combine_words::<C>(&self.to.unit[from..from + COLUMNS], t);
         }
     }
 
     // The counts from i to the columns that the recurrence gives, if the edges from i lead to the vertices of the mask.
     fn counts(self, i: usize, mask: u64) -> [u64; COLUMNS]
         requires { (i < self.sheet.n) × (mask < 2 ^ self.sheet.n) }
-        ensures { BlockCounted self.entry.sheet.n self.entry.sheet.words.now i self.entry.c mask result }
+        ensures { BlockCounted self.entry.sheet.n self.entry.sheet.words.now i self.entry.to.c mask result }
     {
         let mut t = [0u64; COLUMNS];
         self.sheet
-            .combine_counts::<Plus>(self.c, COLUMNS, mask, &mut t);
+            .combine_counts::<Plus>(self.to.c, COLUMNS, mask, &mut t);
         self.combine_own::<Plus>(i, &mut t);
         t
     }
@@ -80,12 +86,12 @@ impl<'a, 'b> Block<'a, 'b> {
     // whether nothing is left of them once these are taken off.
     fn part_holds(self, i: usize, mask: u64) -> bool
         requires { (i < self.sheet.n) × (mask < 2 ^ self.sheet.n) }
-        ensures { Reflects result (PartHolds self.entry.sheet.n self.entry.sheet.words.now i self.entry.c mask) }
+        ensures { Reflects result (PartHolds self.entry.sheet.n self.entry.sheet.words.now i self.entry.to.c mask) }
     {
-        let mut t = block_of(&self.sheet.counts_from(i)[self.c..self.c + COLUMNS]);
+        let mut t = block_of(&self.sheet.counts_from(i)[self.to.c..self.to.c + COLUMNS]);
         self.combine_own::<Minus>(i, &mut t);
         self.sheet
-            .combine_counts::<Minus>(self.c, COLUMNS, mask, &mut t);
+            .combine_counts::<Minus>(self.to.c, COLUMNS, mask, &mut t);
         vertex_counts::same_words(&t, &[0u64; COLUMNS])
     }
 
@@ -93,9 +99,9 @@ impl<'a, 'b> Block<'a, 'b> {
     #[tactic(auto, using(crate::proofs::BlockLaws::compared_laws))]
     fn holds(self, order: &[usize]) -> bool
         requires { Ordered self.sheet.n self.sheet.words.now order.now }
-        ensures { Reflects result (BlockHolds self.entry.sheet.n self.entry.sheet.words.now self.entry.c) }
+        ensures { Reflects result (BlockHolds self.entry.sheet.n self.entry.sheet.words.now self.entry.to.c) }
     {
-        let mut leading = block_mask(self.c);
+        let mut leading = block_mask(self.to.c);
         for &i in order {
             let mask = leading_successors(i, self.sheet.row(i), &mut leading);
             if !self.part_holds(i, mask) {
@@ -142,6 +148,7 @@ fn leading_successors(i: usize, row: u64, leading: &mut u64) -> u64
 }
 
 // Where the block of columns begins that holds column c and those after it: at c, or earlier where fewer than COLUMNS are left.
+// A sheet of COLUMNS vertices or more has no type of its own: it would be a `View`, and where the sheet is written there is none.
 fn block_at(n: usize, c: usize) -> usize
     requires { (columns ≤ n) × (n ≤ most_vertices) × (c < n) }
     ensures { BlockAt n c result }
@@ -149,33 +156,29 @@ fn block_at(n: usize, c: usize) -> usize
     c.min(n - COLUMNS)
 }
 
-// The counts from i to the columns from c on, written. What writes a sheet takes n and the words: a struct that held the `&mut` would have
+// The counts from i to the columns, written. What writes a sheet takes n and the words: a struct that held the `&mut` would have
 // to say in each contract that it keeps both.
-fn fill_part(n: usize, sheet: &mut [u64], i: usize, c: usize, mask: u64, unit: &[u64; UNIT_WORDS])
-    requires { (BlockReady n sheet.old c unit.now) × (i < n) × (mask < 2 ^ n) }
-    ensures { sheet.new ≡ with_counts n sheet.old i c columns (λ (j : ℕ). count_by_mask n sheet.old i j mask) }
+fn fill_part(n: usize, sheet: &mut [u64], to: Columns, i: usize, mask: u64)
+    requires { (Shape n sheet.old) × (to.c + columns ≤ n) × (i < n) × (mask < 2 ^ n) }
+    ensures { sheet.new ≡ with_counts n sheet.old i to.entry.c columns (λ (j : ℕ). count_by_mask n sheet.old i j mask) }
 {
     let lent = View { n, words: sheet };
-    let block = Block {
-        sheet: lent,
-        c,
-        unit,
-    };
+    let block = Block { sheet: lent, to };
     let t = block.counts(i, mask);
-    sheet::words::copy_words(COLUMNS, &t, sheet, sheet::layout::counts_start(n, i) + c);
+    sheet::words::copy_words(&t, sheet, sheet::layout::counts_start(n, i) + to.c);
 }
 
-// The counts from every vertex to the columns from c on, written in the order given. A struct can't hold the order with the `&mut` either:
-// it is an order of the sheet as it was lent. `Block::holds` and `blocks_hold` walk as this and `fill_blocks` do: a walk for both would
-// hold the sheet that these write, and masks kept for a second loop cost a ninth of the time on sparse sheets, as tried in C.
-fn fill_block(n: usize, sheet: &mut [u64], c: usize, order: &[usize], unit: &[u64; UNIT_WORDS])
-    requires { (BlockReady n sheet.old c unit.now) × (Ordered n sheet.old order.now) }
-    ensures { ColumnsFilled n sheet.old c columns sheet.new }
+// The counts from every vertex to the columns, written in the order given. A struct can't hold the order with the `&mut` either: it is an
+// order of the sheet as it was lent. `Block::holds` and `blocks_hold` walk alike. One walk for both would borrow the rows of the sheet
+// while this writes its counts; with rows and counts as two slices, what reads a sheet, `View`, would be there twice.
+fn fill_block(n: usize, sheet: &mut [u64], to: Columns, order: &[usize])
+    requires { (Shape n sheet.old) × (to.c + columns ≤ n) × (Ordered n sheet.old order.now) }
+    ensures { ColumnsFilled n sheet.old to.entry.c columns sheet.new }
 {
-    let mut leading = block_mask(c);
+    let mut leading = block_mask(to.c);
     for &i in order {
         let mask = leading_successors(i, sheet[i], &mut leading);
-        fill_part(n, sheet, i, c, mask, unit);
+        fill_part(n, sheet, to, i, mask);
     }
 }
 
@@ -186,7 +189,11 @@ pub fn fill_blocks(n: usize, sheet: &mut [u64], order: &[usize])
 {
     let unit = unit_words();
     for c in (0..n).step_by(COLUMNS) {
-        fill_block(n, sheet, block_at(n, c), order, &unit);
+        let to = Columns {
+            c: block_at(n, c),
+            unit: &unit,
+        };
+        fill_block(n, sheet, to, order);
     }
 }
 
@@ -197,11 +204,11 @@ pub fn blocks_hold(sheet: View, order: &[usize]) -> bool
 {
     let unit = unit_words();
     for c in (0..sheet.n).step_by(COLUMNS) {
-        let block = Block {
-            sheet,
+        let to = Columns {
             c: block_at(sheet.n, c),
             unit: &unit,
         };
+        let block = Block { sheet, to };
         if !block.holds(order) {
             return false;
         }

@@ -36,6 +36,7 @@ fn descend(
     ensures { Descended sheet.entry.n sheet.entry.words.now left result stack.new.items }
 {
     let mut ahead = look_ahead(sheet, left, stack);
+    // A `while`: each turn makes the mask `ahead` anew, so no iterator stands for it.
     while ahead != 0 {
         if stack.len() == sheet.n {
             return None;
@@ -56,6 +57,7 @@ pub fn find_order(sheet: View) -> Option<ArrayVec<usize, { Sheet::VERTICES }>>
     let mut order = ArrayVec::new();
     let mut stack = ArrayVec::new();
     let mut left = word::low_bits(sheet.n);
+    // A `while`: `descend` finds the vertex that a turn takes out of the mask `left`, so no iterator stands for it.
     while left != 0 {
         let last = descend(sheet, left, &mut stack)?;
         left = word::clear_bit(left, last);

@@ -123,7 +123,7 @@ module _ {A : Type 0} (n : ℕ) (s plan : List ℕ) (o : Result A RefusedAt) (t 
 
   -- the words kept aside are those of s, and put back they are s
   pub all_refused : (e : RefusedAt) → o ≡ Err e → (z kept u : List ℕ) (m : ℕ) → m ≡ length s → length s ≤ length z
-      → kept ≡ over z 0 (λ (j : ℕ). get_or s j 0) m → length t ≡ length s → u ≡ over t 0 (λ (j : ℕ). get_or kept j 0) m
+      → kept ≡ over z 0 (λ (j : ℕ). get_or s j 0) (length s) → length t ≡ length s → u ≡ over t 0 (λ (j : ℕ). get_or kept j 0) m
       → AppliedAll n (lent s) plan (answer (number_of_refusal e.refusal) (unwrap_or e.place 0) 0) (lent u)
   all_refused e eo z kept u m em w ek et eu =
       let some : ¬ (number_of_refusal e.refusal ≡ 0) = refusal_some e.refusal in
@@ -138,7 +138,7 @@ module _ {A : Type 0} (n : ℕ) (s plan : List ℕ) (o : Result A RefusedAt) (t 
       back =
           let long : length u ≡ length s = ap length eu ∙ length_puts t (λ j. 0 + j) (λ j. get_or kept j 0) m ∙ et in
           ext_get_or 0 u s long
-          (λ k q. over_front t u _ m k eu (omega arith) (omega arith) ∙ over_front z kept _ m k ek (omega arith) (omega arith))
+          (λ k q. over_front t u _ m k eu (omega arith) (omega arith) ∙ over_front z kept _ (length s) k ek w (omega arith))
 
   pub all_accepted : number_at o ≡ 0 → (v : ℕ) → v ≡ set_bits n t → AppliedAll n (lent s) plan (answer 0 0 v) (lent t)
   all_accepted z v ev =

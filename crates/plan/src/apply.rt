@@ -52,10 +52,11 @@ pub fn apply_core(n: usize, sheet: &mut [u64], plan: &[u8]) -> Result<u64, Refus
     ensures { AppliedAll n (lent sheet.old) plan.now (answer_at result) (lent sheet.new) }
 {
     let words = sheet::layout::word_count(n);
+    // An array of the greatest size, whose front alone is used: there is no heap.
     let mut kept = [0u64; Sheet::WORDS];
-    sheet::words::copy_words(words, sheet, &mut kept, 0);
+    sheet::words::copy_words(sheet, &mut kept, 0);
     if let Err(refused) = apply(n, sheet, plan) {
-        sheet::words::copy_words(words, &kept, sheet, 0);
+        sheet::words::copy_words(&kept[..words], sheet, 0);
         return Err(refused);
     }
     let applied = View { n, words: sheet };

@@ -1,8 +1,10 @@
--- The laws of a part of a list, from the place a to the place b, and of the rows of a sheet. Assumes nothing.
-use Rattle.std.proofs.Common.{◌≡◌, ◌⊎◌, inl, inr, ℕ, ◌+◌, ◌-◌, ◌≤◌, ◌<◌, List, ◌++◌, length, get_or, take, drop, ◌∙◌, length-drop, length-take-le, get_or-drop, get_or-take, arith}
+-- The laws of a part of a list, from the place a to the place b, of the front of one written, and of the rows of a sheet. Assumes nothing.
+use Rattle.std.proofs.Common.{◌≡◌, ◌⊎◌, inl, inr, ℕ, ◌+◌, ◌-◌, ◌≤◌, ◌<◌, List, ◌++◌, length, get_or, take, drop, ap, ◌∙◌, length-drop, length-take-le, get_or-drop, get_or-take, arith}
 use Rattle.std.proofs.lemmas.Grind.{common_steps}
 use Rattle.sheet_theory.specs.Layout.{Shape}
 use Rattle.sheet_theory.proofs.LayoutLaws.{rows_within}
+use Rattle.sheet.specs.Fill.{over}
+use Rattle.sheet.proofs.FillLaws.{puts_cong}
 
 -- the rows of a sheet of n vertices are n
 pub rows_taken : {n : ℕ} {s : List ℕ} → Shape n s → length (take n s) ≡ n
@@ -29,3 +31,9 @@ module _ (xs ys : List ℕ) (a k : ℕ) (h : a + k ≤ length xs) (e : length ys
   pub replaced_out : (i : ℕ) → (i < a) ⊎ (a + k ≤ i) → get_or replaced i 0 ≡ get_or xs i 0
   replaced_out i (inl q) = grind (arith, common_steps)
   replaced_out i (inr q) = grind (arith, common_steps)
+
+-- the first n words of t, written
+pub over_taken : (l t u : List ℕ) (b n : ℕ) → n ≤ length t → u ≡ over l b (λ (j : ℕ). get_or (take n t) j 0) (length (take n t))
+    → u ≡ over l b (λ (j : ℕ). get_or t j 0) n
+over_taken l t u b n h e =
+    e ∙ ap (over l b (λ (j : ℕ). get_or (take n t) j 0)) (length-take-le n t h) ∙ puts_cong l (λ j. b + j) _ _ n (λ j q. get_or-take n t j 0 q)

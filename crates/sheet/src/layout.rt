@@ -37,7 +37,8 @@ impl Sheet {
     }
 }
 
-// Internal: where the counts end.
+// Internal: where the counts end. A bound on one number has no type of its own here, since each caller has n in another form: a `View`, the
+// edges of an edit, or n beside a sheet that is written.
 #[tactic(auto, using(sheet_theory::proofs::LayoutLaws::counts_le))]
 pub fn counts_end(n: usize) -> usize
     requires { n ≤ most_vertices }

@@ -14,6 +14,7 @@ use word::Plus;
 
 // The counts from i as the recurrence gives them: one to i itself, and those from its successors added up, modulo 2^64. They are added up
 // here: an array that another function gave would be copied once more, and `validate` takes a tenth longer on 8 vertices.
+// That row i is below 2^n is what `RowsBelow` and `Ordered` say of every vertex, here of one: it has no type of its own.
 fn sum_successors(sheet: View, i: usize) -> [u64; Sheet::VERTICES]
     requires { (i < sheet.n) × (row_at sheet.words.now i < 2 ^ sheet.n) }
     ensures { SuccessorsSummed sheet.entry.n sheet.entry.words.now i result }
@@ -66,7 +67,7 @@ fn fill_counts_from(n: usize, sheet: &mut [u64], v: usize)
     ensures { sheet.new ≡ with_counts n sheet.old v 0 n (successors_sum n sheet.old v) }
 {
     let t = sum_successors(View { n, words: sheet }, v);
-    sheet::words::copy_words(n, &t, sheet, sheet::layout::counts_start(n, v));
+    sheet::words::copy_words(&t[..n], sheet, sheet::layout::counts_start(n, v));
 }
 
 // Internal: the counts, in the order given, vertex by vertex. A struct can't hold the order with the `&mut` either: it is an order of the

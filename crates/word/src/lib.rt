@@ -11,7 +11,7 @@ ghost use Rattle.std.specs.Iterator.{at_most};
 // The bits of a word.
 const BITS: usize = 64;
 
-// Internal: whether bit j of row is set.
+// Internal: whether bit j of row is set. A place in a word has no type of its own: it would be made and taken apart again at each call.
 pub fn test_bit(row: u64, j: usize) -> bool
     requires { j < word_bits }
     ensures { result ≡ has_bit row j }
@@ -60,8 +60,8 @@ pub fn low_bits(n: usize) -> u64
     (1 << n) - 1
 }
 
-// Internal: the place of the lowest bit of mask that is set. The mask is not 0. It is cast, here and in the next function: from `u32` to
-// `usize` there is no `From`.
+// Internal: the place of the lowest bit of mask that is set. The mask is not 0. The place is cast, here and in the next function: from
+// `u32` to `usize` there is no `From`. A word that is not 0 has no type of its own: it would be made and taken apart again at each call.
 pub fn lowest_bit(mask: u64) -> usize
     requires { 0 < mask }
     ensures { Lowest mask result }

@@ -9,8 +9,8 @@ pub returns-in-Some : goal.returns-in-Some
 returns-in-Some g c =
     let p = c.in-Some.place in
     let a = c.args in
-    let within : 16 - p + 16 ≤ length a.self.unit.now = omega (arith, a.self.made.long, c.in-Some.ensures.0) in
-    own_in g.C.Combine.op a.i a.self.c _ c.told-t c.fits-t a.self.unit.now _ _ p a.self.made c.in-Some.ensures.1 c.in-Some.ensures.0
+    let within : 16 - p + 16 ≤ length a.self.to.unit.now = omega (arith, a.self.to.made.long, c.in-Some.ensures.0) in
+    own_in g.C.Combine.op a.i a.self.to.c _ c.told-t c.fits-t a.self.to.unit.now _ _ p a.self.to.made c.in-Some.ensures.1 c.in-Some.ensures.0
     (part_long _ _ _ within (omega arith) ∙ omega arith) (λ j h. part_at _ _ _ within j (omega arith)) c.combine_words.ensures
 
 pub returns-in_default : goal.returns-in_default

@@ -4,4 +4,4 @@ use Rattle.count_blocks.proofs.BlockLaws.{Compared}
 use Rattle.count_blocks.proofs.Block.holds.Given as goal
 
 abbrev pub invariant-loop-i : goal.invariant-loop-i
-invariant-loop-i l = Compared l.self.sheet.n l.self.sheet.words.now l.order l.self.c l.i-index l.leading
+invariant-loop-i l = Compared l.self.sheet.n l.self.sheet.words.now l.order l.self.to.c l.i-index l.leading
