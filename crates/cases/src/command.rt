@@ -5,7 +5,8 @@ use arrayvec::ArrayVec;
 // The most numbers of a line: with each stands a space, and the whole input is shorter than its buffer.
 pub const NUMBERS: usize = script::INPUT / 2;
 
-// Room for the numbers of a line. It is lent to the commands, so that they are handed on without moving the numbers.
+// Room for the numbers of a line. It is lent to the commands, so that they are handed on without moving the numbers; and it stands beside
+// `Lent`, since a command holds it while what is lent is written.
 pub type Numbers = ArrayVec<usize, NUMBERS>;
 
 // Whether a byte stands between two words.

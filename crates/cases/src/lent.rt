@@ -24,7 +24,7 @@ pub struct Lent {
     kept: [u64; WORDS],
 }
 
-// Makes the items so many of one value, if there are no more than the most.
+// Replaces the items by so many copies of the value, if there is room for them.
 fn fill<T: Copy + Default + Drop, const MOST: usize>(
     items: &mut ArrayVec<T, MOST>,
     count: usize,

@@ -37,7 +37,7 @@ use lent::Lent;
 use sheet::Sheet;
 use std::io;
 
-// A command that is a name with numbers. Those that are words are cast: from `usize` to `u64` there is no `From`.
+// A command that is a name with numbers. A number that is stored as a word is cast: from `usize` to `u64` there is no `From`.
 fn obey_command(
     rt: &impl Print,
     line: &[u8],

@@ -132,7 +132,8 @@ fn block_mask(c: usize) -> u64
     word::low_bits(c + COLUMNS) & !word::low_bits(c)
 }
 
-// The vertices of the row of i that are among the leading, those found to lead to one of a block's columns. If there is one, i joins them.
+// Those successors of i, in its row, that are known to lead to a column of the block: the vertices of `leading`. If there is one, i is
+// known to lead there too.
 #[tactic(auto, using(crate::proofs::BlockLaws::led_set, crate::proofs::BlockLaws::led_same))]
 fn leading_successors(i: usize, row: u64, leading: &mut u64) -> u64
     requires { i < most_vertices }
@@ -169,8 +170,9 @@ fn fill_part(n: usize, sheet: &mut [u64], to: Columns, i: usize, mask: u64)
 }
 
 // The counts from every vertex to the columns, written in the order given. A struct can't hold the order with the `&mut` either: it is an
-// order of the sheet as it was lent. `Block::holds` and `blocks_hold` walk alike. One walk for both would borrow the rows of the sheet
-// while this writes its counts; with rows and counts as two slices, what reads a sheet, `View`, would be there twice.
+// order of the sheet as it was lent. `Block::holds` walks as this function does, and `blocks_hold` as `fill_blocks`. One walk for both
+// would borrow the rows of the sheet while this writes its counts; with rows and counts as two slices, what reads a sheet, `View`, would
+// be there twice.
 fn fill_block(n: usize, sheet: &mut [u64], to: Columns, order: &[usize])
     requires { (Shape n sheet.old) × (to.c + columns ≤ n) × (Ordered n sheet.old order.now) }
     ensures { ColumnsFilled n sheet.old to.entry.c columns sheet.new }

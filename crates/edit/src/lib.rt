@@ -36,7 +36,7 @@ fn write_edit(edges: EdgesAt, sheet: &mut [u64]) -> u64
     lent.set_bits()
 }
 
-// The edges of an edit as they arrive. Nothing is checked yet.
+// The edges of an edit as they arrive, beside n and whether they are inserted: once they are checked, an `EdgesAt` has it all.
 #[derive(Clone, Copy)]
 enum Named {
     // The one from the first vertex to the second.

@@ -27,7 +27,7 @@ pub struct EdgesAt {
 
 impl EdgesAt {
     // Internal: the edge from one vertex to another: at its start, with no predecessor and its end for the one successor. Or 3 if there is
-    // no such vertex.
+    // no such vertex. The test is that of `View::check_vertices`; here there is no view, since the sheet is to be written.
     pub fn edge(inserts: bool, n: usize, from: usize, to: usize) -> Result<EdgesAt, Refusal>
         requires { n ≤ most_vertices }
         ensures number { First (argued n (one from to) []) (number_of result) }

@@ -65,7 +65,7 @@ fn add_multiple(words: &mut [u64], x: u64, t: &[u64; Sheet::VERTICES])
 struct Sums {
     // The sums T over the successors.
     t: [u64; Sheet::VERTICES],
-    // What F is multiplied by, if there are predecessors.
+    // At j, what F is multiplied by in the count to j. Without predecessors it is not looked at.
     u: [u64; Sheet::VERTICES],
 }
 

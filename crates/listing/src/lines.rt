@@ -1,5 +1,5 @@
-// The lines of a listing, put into a buffer from a place on. The place goes beside the buffer, as `text::put` says; and `io::Write` for a
-// slice promises how many bytes it puts, but not which.
+// The lines of a listing, put into a buffer from a place on. The place goes beside the buffer, as `text::put` says. The buffer is the
+// caller's: an `ArrayVec` would be a second one of that size, and `io::Write` for a slice promises how many bytes it puts, but not which.
 ghost use Rattle.std.specs.Prelude.{◌≡◌, ◌++◌, ◌+◌, ◌≤◌, ◌<◌, length};
 ghost use Rattle.text.specs.Text.{Put};
 ghost use Rattle.answer.specs.Answers.{number_of_refusal, answer_at};

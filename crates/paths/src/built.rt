@@ -34,7 +34,8 @@ impl<'a> Graph<'a> {
     }
 }
 
-// The edges of the first records of a text, inserted, and the text after them; or the first refusal.
+// The edges of the first records of a text, inserted, and the text after them; or the first refusal. The words are written, so n stands
+// beside them.
 fn insert_edges<'t>(
     n: usize,
     sheet: &mut [u64],

@@ -26,7 +26,8 @@ pub fn read_plan(n: usize, sheet: &mut [u64], plan: &[u8]) -> Answer
     apply_plan(n, sheet, plan).into()
 }
 
-// Internal: the work of `read_plan`: its value, or why it refuses and at which record.
+// Internal: the work of `read_plan`: its value, or why it refuses and at which record. What writes a sheet takes n and the words: the reason
+// stands at `View`.
 pub fn apply_plan(n: usize, sheet: &mut [u64], plan: &[u8]) -> Result<u64, RefusedAt>
     ensures { ReadPlan n (lent sheet.old) plan.now (answer_at result) (lent sheet.new) }
 {

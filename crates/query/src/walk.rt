@@ -34,7 +34,7 @@ fn step(sheet: View, i: usize, to: usize, k: u64) -> Option<Next>
     None
 }
 
-// Where a walk begins and ends, and its rank.
+// Where a walk begins and ends, and its rank: how many come before it.
 #[derive(Clone, Copy)]
 pub(crate) struct ByRank {
     pub(crate) from: usize,

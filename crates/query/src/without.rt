@@ -22,6 +22,7 @@ impl WithoutEdge {
     pub(crate) fn check(self, sheet: View) -> Result<(), Refusal>
         ensures { First (without_conditions sheet.entry.n (lent sheet.entry.words.now) self) (number_of result) }
     {
+        // The greatest of the four, which is one test: docs/SPEED.md.
         if sheet.n <= self.from.max(self.to).max(self.edge_from.max(self.edge_to)) {
             return Err(Refusal::Vertex);
         }

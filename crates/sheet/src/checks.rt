@@ -8,7 +8,8 @@ ghost use Rattle.sheet_theory.specs.Conditions.{altering};
 use crate::view::View;
 use answer::Refusal;
 
-// Internal: why a call that alters a sheet refuses before it looks at anything else: 1 or 2.
+// Internal: why a call that alters a sheet refuses before it looks at anything else: 1 or 2. It stands beside `View::of` since the contracts
+// have a name of its own for what these calls look for.
 pub fn altering(n: usize, sheet: &[u64]) -> Result<(), Refusal>
     ensures { First (altering n (lent sheet.now) []) (number_of result) }
 {

@@ -1,4 +1,4 @@
-// The empty sheet, written.
+// The empty sheet, written. What writes a sheet takes n and the words: the reason stands at `View`.
 ghost use Rattle.std.specs.Prelude.{◌≡◌, ℕ};
 ghost use Rattle.sheet_theory.specs.Layout.{Shape, empty_sheet};
 ghost use Rattle.sheet.specs.Fill.{puts};

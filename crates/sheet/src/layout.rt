@@ -37,8 +37,8 @@ impl Sheet {
     }
 }
 
-// Internal: where the counts end. A bound on one number has no type of its own here, since each caller has n in another form: a `View`, the
-// edges of an edit, or n beside a sheet that is written.
+// Internal: where the counts end. The bound of n is a clause, here and below: one caller has n from a `View`, one from the edges of an edit,
+// one has it alone, and a number of a type for it would be made at each call.
 #[tactic(auto, using(sheet_theory::proofs::LayoutLaws::counts_le))]
 pub fn counts_end(n: usize) -> usize
     requires { n ≤ most_vertices }

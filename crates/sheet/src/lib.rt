@@ -25,7 +25,7 @@ pub fn empty(n: usize, sheet: &mut [u64]) -> Answer
     make_empty(n, sheet).into()
 }
 
-// The work of `empty`.
+// The work of `empty`. What writes a sheet takes n and the words: the reason stands at `View`.
 fn make_empty(n: usize, sheet: &mut [u64]) -> Result<u64, Refusal>
     ensures answer { answer_of result ≡ empty_answer n (lent sheet.old) }
     ensures words { lent sheet.new ≡ empty_after n (lent sheet.old) }
@@ -42,7 +42,7 @@ pub fn path_count(n: usize, sheet: &[u64], from: usize, to: usize) -> Answer
     stored_count(n, sheet, from, to).into()
 }
 
-// The work of `path_count`.
+// The work of `path_count`. It takes what the call takes, as the work of each call does, since `?` is what leaves `View::of`.
 fn stored_count(n: usize, sheet: &[u64], from: usize, to: usize) -> Result<u64, Refusal>
     ensures { answer_of result ≡ path_count_answer n (lent sheet.now) from to }
 {

@@ -19,7 +19,8 @@ pub fn combine_words<C: Combine>(words: &[u64], t: &mut [u64])
     requires { length words.now ≤ length t.old }
     ensures { t.new ≡ combined C.op (length words.now) words.now t.old }
 {
-    // By the place, not by `t.iter_mut().zip(words)`: what is written through `zip` is not known after the loop: the proof does not close.
+    // By the place and not by `t.iter_mut().zip(words)`: what is written through `zip` is not known after the loop, so the proof does not
+    // close.
     for (j, x) in words.iter().enumerate() {
         t[j] = C::combine(t[j], *x);
     }

@@ -14,7 +14,7 @@ use word::Plus;
 
 // The counts from i as the recurrence gives them: one to i itself, and those from its successors added up, modulo 2^64. They are added up
 // here: an array that another function gave would be copied once more, and `validate` takes a tenth longer on 8 vertices.
-// That row i is below 2^n is what `RowsBelow` and `Ordered` say of every vertex, here of one: it has no type of its own.
+// `RowsBelow` says of all rows that they are below 2^n; here it is asked of row i alone, as a clause.
 fn sum_successors(sheet: View, i: usize) -> [u64; Sheet::VERTICES]
     requires { (i < sheet.n) × (row_at sheet.words.now i < 2 ^ sheet.n) }
     ensures { SuccessorsSummed sheet.entry.n sheet.entry.words.now i result }
@@ -71,7 +71,7 @@ fn fill_counts_from(n: usize, sheet: &mut [u64], v: usize)
 }
 
 // Internal: the counts, in the order given, vertex by vertex. A struct can't hold the order with the `&mut` either: it is an order of the
-// sheet as it was lent. `all_counts_hold` has a loop of its own, since it needs no order: one for both would be lent a `&mut` for a test.
+// sheet as it was lent. `all_counts_hold` has a loop of its own: a loop for both would need a sheet to write, and a test has none.
 #[tactic(auto, using(crate::proofs::FilledLaws::filled_more))]
 pub fn fill_all_counts(n: usize, sheet: &mut [u64], order: &[usize])
     requires { (Shape n sheet.old) × (Ordered n sheet.old order.now) }

@@ -11,7 +11,8 @@ ghost use Rattle.std.specs.Iterator.{at_most};
 // The bits of a word.
 const BITS: usize = 64;
 
-// Internal: whether bit j of row is set. A place in a word has no type of its own: it would be made and taken apart again at each call.
+// Internal: whether bit j of row is set. The place is a plain number, here and below: one of a type for numbers below 64 would be wrapped
+// and unwrapped at each call.
 pub fn test_bit(row: u64, j: usize) -> bool
     requires { j < word_bits }
     ensures { result ≡ has_bit row j }
@@ -61,7 +62,8 @@ pub fn low_bits(n: usize) -> u64
 }
 
 // Internal: the place of the lowest bit of mask that is set. The mask is not 0. The place is cast, here and in the next function: from
-// `u32` to `usize` there is no `From`. A word that is not 0 has no type of its own: it would be made and taken apart again at each call.
+// `u32` to `usize` there is no `From`. The mask is a plain word: one of a type for words that are not 0 would be wrapped and unwrapped at
+// each call.
 pub fn lowest_bit(mask: u64) -> usize
     requires { 0 < mask }
     ensures { Lowest mask result }
