@@ -155,7 +155,7 @@ impl Combine for Minus {
     }
 }
 
-// Internal: a + b, modulo 2 ^ 64.
+// Internal: a + b, modulo 2 ^ 64. Document 01 names this form, and the two below it.
 pub fn wrapping_add(a: u64, b: u64) -> u64
     ensures { result ≡ (a + b) % 2 ^ 64 }
 {
