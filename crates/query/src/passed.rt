@@ -13,7 +13,7 @@ fn pass_over(sheet: View, i: usize, b: usize, j: usize) -> u64
     requires { (i < sheet.n) × (b < sheet.n) × (j < sheet.n) }
     ensures { result ≡ passed (edge_at sheet.entry.words.now) (count_at sheet.entry.n sheet.entry.words.now) j i b % 2 ^ 64 }
 {
-    // By a shift: `low_bits` would ask besides whether b is 64, and by it `rank` is over its limit of speed on two graphs of four.
+    // By a shift: `low_bits` would ask besides whether b is 64, which takes three instructions a vertex.
     let lower = (1 << b) - 1;
     let mut sum = 0;
     for a in Bits::of(sheet.row(i) & lower) {
