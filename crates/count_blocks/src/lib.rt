@@ -70,7 +70,8 @@ impl<'a, 'b> Block<'a, 'b> {
         }
     }
 
-    // The counts from i to the columns that the recurrence gives, if the edges from i lead to the vertices of the mask.
+    // The counts from i to the columns that the recurrence gives, if the edges from i lead to the vertices of the mask. A vertex and its mask
+    // are what a turn of a walk has: a struct of the two would be made in each turn and taken apart here.
     fn counts(self, i: usize, mask: u64) -> [u64; COLUMNS]
         requires { (i < self.sheet.n) × (mask < 2 ^ self.sheet.n) }
         ensures { BlockCounted self.entry.sheet.n self.entry.sheet.words.now i self.entry.to.c mask result }

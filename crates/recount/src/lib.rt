@@ -38,7 +38,8 @@ pub fn recount_core(n: usize, sheet: &mut [u64]) -> Result<u64, Refusal>
         return Err(Refusal::StrayBit);
     }
 
-    // The order is read where it was found: `ok_or` and `?` copy it, and `validate` takes a fifth longer on 10 vertices.
+    // The order is read where it was found: `ok_or` and `?` copy it, and `validate`, which reads it so too, takes a fifth longer on 10
+    // vertices.
     let found = order::find_order(lent);
     let Some(order) = &found else {
         return Err(Refusal::Cycle);
