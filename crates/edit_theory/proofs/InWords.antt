@@ -178,13 +178,6 @@ module _ (n : ℕ) (s : Lent) where
 
   -- ---- AN ACCEPTED EDIT of the edges g, on any sheet
 
-  -- the vertex and the masks of one edge from u to v, and of masks at v
-  pub one_edge_words : (u v : ℕ) → (vertex_of (one u v) ≡ u) × (predecessors_of (one u v) ≡ 0) × (successors_of (one u v) ≡ 2 ^ v)
-  one_edge_words u v = (refl, refl, refl)
-
-  pub masks_words : (v A B : ℕ) → (vertex_of (at v A B) ≡ v) × (predecessors_of (at v A B) ≡ A) × (successors_of (at v A B) ≡ B)
-  masks_words v A B = (refl, refl, refl)
-
   module _ (inserts : Bool) (g : Edges) (z : (edit_answer (edit n g inserts) s).number ≡ 0) where
     abbrev after : Lent
     after = edit_after (edit n g inserts) s

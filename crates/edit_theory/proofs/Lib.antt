@@ -1,6 +1,5 @@
 pub mod Examples
 pub mod Refusals
-pub mod AnyWords
 pub mod InWords
 pub mod OneEdit
 pub mod EmptyMasks

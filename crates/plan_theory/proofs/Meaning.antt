@@ -1,23 +1,22 @@
 -- WHAT READING AND WRITING A PLAN MEAN: in terms of the model, of whole lists of edits and of cycles. Assumes nothing.
-use Rattle.plan_theory.proofs.PlanOfLaws.{plan_length}
 use mathlib.Core.Path.{◌≡◌, refl, sym, ap, ap₂, subst, ◌∙◌}
 use mathlib.Core.Logic.{inl, inr, ◌↔◌}
 use mathlib.Core.List.{List, [], ◌∷◌}
-use Prim.Native.Nat.{ℕ, zero, suc, ◌*◌, ◌≤◌, ◌<◌}
-use native.Mathlib.Decide.{ℕ_discrete, dec_lt}
+use Prim.Native.Nat.{ℕ, zero, suc, ◌*◌, ◌≤◌}
+use native.Mathlib.Decide.{ℕ_discrete}
 use native.Mathlib.Omega.{arith}
 use lib.ListN.{length, take, drop}
 use Rattle.sums.specs.Gather.{gather}
 use Rattle.text.specs.Text.{written}
-use Rattle.text.proofs.TextLaws.{written_first, written_rest}
+use Rattle.text.proofs.TextLaws.{written_first}
 use Rattle.record.specs.Record.{OfForm}
 use Rattle.answer.specs.declared.Answer.{Answer}
 use Rattle.answer.specs.Table.{◌gives◌, First}
 use Rattle.answer.specs.Answers.{answer, decided}
 use Rattle.sheet_theory.specs.Layout.{set_bits}
-use Rattle.sheet_theory.specs.Lent.{Lent, Lends}
+use Rattle.sheet_theory.specs.Lent.{Lent}
 use Rattle.sheet_theory.specs.Valid.{Valid}
-use Rattle.answer.proofs.TableLaws.{first_only, first_past, first_iff, first_last, first_accepts}
+use Rattle.answer.proofs.TableLaws.{first_only, first_past}
 use Rattle.answer.proofs.AnswerLaws.{decided_new, decided_old, answer_ext}
 use Rattle.recount_theory.proofs.Meaning.{valid_validates}
 use Rattle.edit_theory.specs.Book.{Model, opened}
@@ -29,8 +28,8 @@ use Rattle.plan_theory.specs.Records.{records, edits, applied}
 use Rattle.plan_theory.specs.Taken.{Taken, Stops, ClosesAt}
 use Rattle.plan_theory.specs.Accepted.{AcceptedPlan}
 use Rattle.plan_theory.specs.PlanOf.{plan_of}
-use Rattle.plan_theory.specs.Calls.{BadPlan, read_conditions, applied_plan, read_answer, read_after, ReadPlan, write_conditions, WritePlan, ShortBuffer}
-use Rattle.sheet_theory.proofs.ValidLaws.{accepted_valid, valid_passed, valid_rest, valid_refused}
+use Rattle.plan_theory.specs.Calls.{BadPlan, read_conditions, applied_plan, read_answer, read_after, ReadPlan, write_conditions, WritePlan}
+use Rattle.sheet_theory.proofs.ValidLaws.{accepted_valid, valid_passed}
 use Rattle.plan_theory.proofs.AppliedLaws.{taken_run, applied_taken, applied_place, applied_after, applied_stops, stops_only, taken_not_stops}
 use Rattle.plan_theory.proofs.PlaceLaws.{stops_malformed}
 use Rattle.plan_theory.proofs.CycleLaws.{stops_closes, closes_stops}
@@ -97,10 +96,6 @@ module _ (n : ℕ) (s : Lent) (plan : List ℕ) (r : Answer) (t : Lent) (h : Rea
         let e = found 0 f in
         rw e (applied_stops n (records plan) (opened n s) s (valid_modelled (accepted_valid n s (BadPlan plan gives 13 ∷ []) f)) refl (rw e at d))
 
-    -- the place of a record that is refused is 1 or more
-    first_place : ¬ (r.number ≡ 0) → ¬ (r.place ≡ 0)
-    first_place d z = omega (arith, z, (first_stops d).place)
-
     -- ONCE THE CHECKS PASS, a plan is accepted exactly if the model takes all its records
     pub read_accepted_iff : (r.number ≡ 0) ↔ ((m : Model) × Taken (opened n s) (records plan) m)
     read_accepted_iff = (
@@ -131,16 +126,6 @@ module _ (n : ℕ) (s : Lent) (plan : List ℕ) (r : Answer) (t : Lent) (h : Rea
       λ c. ((read_stops_iff 8 (suc (length c.before)) (λ e. omega (arith, e))).1 (closes_stops (opened n s) (records plan) (first_past f).0 c)).0,
     )
 
-  -- BEFORE THE FIRST RECORD: it is refused by k with the place 0 exactly if k is the number of the first condition on sheet and length that holds
-  pub read_early_iff : (k : ℕ) → ¬ (k ≡ 0) → ((r.number ≡ k) × (r.place ≡ 0)) ↔ First (read_conditions n s plan) k
-  read_early_iff k d = (
-    λ e. elim (ℕ_discrete h.k 0) [
-      | yes z ↦ absurd (first_place (rw z at h.first) (rw e.0 d) e.1)
-      | no c ↦ rw (sym (ap (λ (x : Answer). x.number) (read_early h.k c h.first)) ∙ e.0) at h.first
-    ],
-    λ f. let e = read_early k d f in (ap (λ (x : Answer). x.number) e, ap (λ (x : Answer). x.place) e),
-  )
-
 -- the contract leaves nothing open: it fixes the answer and every word
 pub read_only : (n : ℕ) (s : Lent) (plan : List ℕ) (r r' : Answer) (t t' : Lent) → ReadPlan n s plan r t → ReadPlan n s plan r' t' → (r ≡ r') × (t ≡ t')
 read_only n s plan r r' t t' h h' =
@@ -155,46 +140,14 @@ read_empty n s r t v h =
     let e = found n s [] r t h 0 (valid_passed n s v (BadPlan [] gives 13 ∷ []) 0 (inr (few, refl))) in
     (e, h.leaves ∙ ap (λ (x : Answer). decided x.number s s) e)
 
--- 9 comes before 13: a sheet that is not valid is refused by 9, whatever the plan, the empty one too
-pub read_not_valid : (n : ℕ) (s : Lent) (plan : List ℕ) (r : Answer) (t : Lent) → Lends n s → ¬ (Valid n s) → ReadPlan n s plan r t → (r ≡ answer 9 0 0) × (t ≡ s)
-read_not_valid n s plan r t h d read =
-    let e = read_early n s plan r t read 9 (λ z. omega (arith, z)) (valid_refused n s h d (BadPlan plan gives 13 ∷ [])) in
-    (e, (read_refused n s plan r t read (λ z. omega (arith, z, ap (λ (x : Answer). x.number) e))).0)
-
 -- ---- write_plan
 
 module _ (n : ℕ) (s : Lent) (p : List ℕ) (r : Answer) (q : List ℕ) (h : WritePlan n s p r q) where
-  -- its number is that of the first condition that holds, and 0 exactly if none does
-  pub write_table : (k : ℕ) → (r.number ≡ k) ↔ First (write_conditions n s (length p)) k
-  write_table k = first_iff (write_conditions n s (length p)) r.number k h.number
-
   -- where it refuses, the buffer is as it was
   pub write_refused : ¬ (r.number ≡ 0) → (q ≡ p) × (r.value ≡ 0)
   write_refused d = (h.bytes ∙ decided_old r.number (written (plan_of n s) p) p d, h.value ∙ decided_old r.number (length (plan_of n s)) 0 d)
 
-  -- 9 comes before 10: a sheet that is not valid is refused by 9, whatever the buffer
-  pub write_not_valid : Lends n s → ¬ (Valid n s) → (r ≡ answer 9 0 0) × (q ≡ p)
-  write_not_valid shape d =
-      let e = (write_table 9).1 (valid_refused n s shape d (ShortBuffer n s (length p) gives 10 ∷ [])) in
-      let f = write_refused (λ z. omega (arith, z, e)) in
-      (answer_ext r _ e h.place f.1, f.0)
-
-  -- a valid sheet is accepted exactly if its plan fits the buffer, and else refused by 10
-  pub write_fits_iff : Valid n s → ((r.number ≡ 0) ↔ (length (plan_of n s) ≤ length p)) × ((r.number ≡ 10) ↔ (length p < length (plan_of n s)))
-  write_fits_iff v =
-      let f : First (ShortBuffer n s (length p) gives 10 ∷ []) r.number = valid_rest n s v (ShortBuffer n s (length p) gives 10 ∷ []) r.number h.number in
-      let e = plan_length n s v in
-      let fits = first_accepts f in
-      let short = first_last f in (
-        (λ z. let g = fits.0 z in elim (dec_lt (length p) (8 * set_bits n s.words)) [ yes l ↦ absurd (g l) | no l ↦ omega arith ], λ l. fits.1 (λ m. omega (arith, m))),
-        (λ z. omega (arith, short.0 z), λ l. short.1 (omega arith)),
-      )
-
-  -- where it does not refuse, the bytes after those that the value counts are as they were
-  pub write_rest : r.number ≡ 0 → drop r.value q ≡ drop r.value p
-  write_rest z = rw (h.value, h.bytes, z) (written_rest (plan_of n s) p)
-
-  -- where it does not, the value counts the bytes of the plan, and these stand first in the buffer
+  -- where it does not refuse, the value counts the bytes of the plan, and these stand first in the buffer
   pub write_taken : r.number ≡ 0 → take r.value q ≡ plan_of n s
   write_taken z = rw (h.value, h.bytes, z) (written_first (plan_of n s) p)
 

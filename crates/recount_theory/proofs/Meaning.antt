@@ -17,7 +17,7 @@ use Rattle.sheet_theory.specs.Lent.{Lent, Lends}
 use Rattle.sheet_theory.specs.Conditions.{BadVertices, BadLength, StrayRow}
 use Rattle.sheet_theory.specs.Valid.{Valid}
 use Rattle.answer.proofs.TableLaws.{first_only, first_cong}
-use Rattle.answer.proofs.ByNumber.{first_not, first_when}
+use Rattle.answer.proofs.ByNumber.{first_not}
 use Rattle.sheet_theory.proofs.ShapeLaws.{accepted_shape, shape_passed, bad_length_cong}
 use Rattle.answer.proofs.AnswerLaws.{answer_ext}
 use Rattle.sheet_theory.proofs.LayoutLaws.{length_redone, row_redone}
@@ -26,11 +26,6 @@ use Rattle.sheet_theory.proofs.SetBitsLaws.{set_bits_cong}
 use Rattle.recount_theory.specs.Calls.{row_conditions, recount_conditions, Recounted, Recount, validate_conditions, Validate}
 
 -- ---- recount
-
--- once the earlier checks pass, the number is 8 exactly if the rows' edges have a cycle
-pub recount_cycle_iff : (n : ℕ) (s : Lent) (r : Answer) (t : Lent) → Recount n s r t → ¬ (BadVertices n) → ¬ (BadLength n s) → ¬ (StrayRow n s.words)
-    → (r.number ≡ 8) ↔ Cycle n (edge_at s.words)
-recount_cycle_iff n s r t h a b c = first_when (recount_conditions n s) r.number 8 h.number (a, (b, (c, tt))) refl
 
 -- what an accepted recount has not found
 record Sound (n : ℕ) (s : Lent) : Type 0 where

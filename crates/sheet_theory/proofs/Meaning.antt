@@ -5,7 +5,7 @@ use Prim.Native.Nat.{ℕ, ◌+◌, ◌-◌, ◌*◌, ◌%◌, ◌^◌, ◌≤◌
 use native.Mathlib.Nat.{mod-eq_of_lt, zero-mul, mul-le-mul_right}
 use native.Mathlib.Decide.{ℕ_discrete}
 use native.Mathlib.Omega.{arith}
-use lib.ListN.{length, get_or, set, replicate, length-replicate}
+use lib.ListN.{length, set, replicate, length-replicate}
 use lib.Pow.{pow_pos}
 use lib.Seq.{get_or-set_same, get_or-set_other}
 use Rattle.sums.specs.Sum.{sum, delta}
@@ -22,7 +22,6 @@ use Rattle.sheet_theory.specs.Lent.{Lent, lent, Lends, mult_at, empty_lent}
 use Rattle.sheet_theory.specs.Conditions.{vertex_conditions}
 use Rattle.sheet_theory.specs.Valid.{Valid}
 use Rattle.sheet_theory.specs.Calls.{empty_number, empty_answer, empty_after, path_count_number, path_count_answer}
-use Rattle.answer.specs.Answers.{answer, answered}
 use Rattle.answer.proofs.AnswerLaws.{decided_new}
 use Rattle.sheet_theory.specs.Internal.{successors_sum, CountsHold}
 use Rattle.sheet_theory.proofs.ShapeLaws.{accepted_shape, shape_passed, vertex_good}
@@ -77,11 +76,6 @@ empty_leaves n s z =
     rw e (empty_valid n h.low h.high, empty_edge n)
 
 -- ---- path_count
-
--- on any sheet the value is the word where the count stands
-pub path_count_stored : (n : ℕ) (s : Lent) (i j : ℕ) → (path_count_answer n s i j).number ≡ 0
-    → path_count_answer n s i j ≡ answer 0 0 (get_or s.words (n + i * n + j) 0)
-path_count_stored n s i j z = ap (λ (k : ℕ). answered k (count_at n s.words i j)) z
 
 -- on a valid sheet a call that names two vertices is accepted, and the value is exactly the number of paths from the one to the other
 pub path_count_exact : (n : ℕ) (s : Lent) (i j : ℕ) → Valid n s → i < n → j < n

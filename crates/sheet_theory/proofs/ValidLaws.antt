@@ -1,7 +1,7 @@
 -- A sheet without a cycle whose counts satisfy the recurrence modulo 2 ^ 64 is valid, and a valid sheet's counts satisfy it. A valid
 -- sheet is known by its rows. A call that wants a valid sheet has one where it finds nothing, and finds nothing on one. Assumes nothing.
 use mathlib.Core.Path.{◌≡◌, refl, sym, ap, subst, ◌∙◌}
-use mathlib.Core.Logic.{inl, inr, ◌↔◌}
+use mathlib.Core.Logic.{inr, ◌↔◌}
 use mathlib.Core.List.{List}
 use Prim.Native.Nat.{ℕ, ◌+◌, ◌*◌, ◌%◌, ◌^◌, ◌≤◌, ◌<◌}
 use native.Mathlib.Nat.{mod-mod, mod-lt, mod-eq_of_lt}
@@ -111,11 +111,7 @@ pub accepted_valid : (n : ℕ) (s : Lent) (cs : Conditions) → First (valid_con
 accepted_valid n s cs f =
     valid_stable n s (accepted_shape n s (not_valid n s cs) f) (first_not (valid_conditions n s cs) 0 f 9 refl)
 
--- on a sheet of its shape that is not valid the number is 9, whatever comes after
-pub valid_refused : (n : ℕ) (s : Lent) → Lends n s → ¬ (Valid n s) → (cs : Conditions) → First (valid_conditions n s cs) 9
-valid_refused n s h d cs = shape_passed n s h (not_valid n s cs) 9 (inl (d, refl))
-
--- on a valid one what comes after gives it
+-- on a valid sheet what comes after 9 gives the number
 pub valid_passed : (n : ℕ) (s : Lent) → Valid n s → (cs : Conditions) (k : ℕ) → First cs k → First (valid_conditions n s cs) k
 valid_passed n s v cs k f = shape_passed n s v.shape (not_valid n s cs) k (inr (λ d. d v, f))
 

@@ -4,5 +4,4 @@ pub mod SheetFields
 pub mod EditFields
 pub mod QueryFields
 pub mod PlanFields
-pub mod EveryN
 pub mod EveryCall

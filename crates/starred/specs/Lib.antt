@@ -1,4 +1,3 @@
 pub mod SheetOf
 pub mod Starred
-pub mod EveryN
 pub mod EveryCall
