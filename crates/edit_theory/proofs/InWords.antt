@@ -48,8 +48,8 @@ module _ (n : ℕ) (s : Lent) (v A B : ℕ) where
   abbrev Named : ℕ → ℕ → Type 0
   Named i j = ((bit A i ≡ 1) × (j ≡ v)) ⊎ ((i ≡ v) × (bit B j ≡ 1))
 
-  abbrev Some : (ℕ → ℕ → Type 0) → Type 0
-  Some P = (i : ℕ) × (j : ℕ) × (i < n) × (j < n) × Named i j × P i j
+  abbrev SomeNamed : (ℕ → ℕ → Type 0) → Type 0
+  SomeNamed P = (i : ℕ) × (j : ℕ) × (i < n) × (j < n) × Named i j × P i j
 
   -- F(i) and T(j) of document 01, by the counts before the edit
   abbrev F : ℕ → ℕ
@@ -59,40 +59,40 @@ module _ (n : ℕ) (s : Lent) (v A B : ℕ) where
   T j = sum n (λ b. bit B b * count n s b j)
 
   -- a cycle by the counts: from v to a predecessor, from a successor to v, or from a successor to a predecessor
-  abbrev Closing : Type 0
-  Closing =
+  abbrev CycleByCounts : Type 0
+  CycleByCounts =
       ((a : ℕ) × (a < n) × (bit A a ≡ 1) × (¬ (count n s v a ≡ 0)))
       ⊎ ((b : ℕ) × (b < n) × (bit B b ≡ 1) × (¬ (count n s b v ≡ 0)))
       ⊎ ((a : ℕ) × (b : ℕ) × (a < n) × (b < n) × (bit A a ≡ 1) × (bit B b ≡ 1) × (¬ (count n s b a ≡ 0)))
 
   -- a cycle among the edges of the sheet and all those of the edit together
-  abbrev Closed : Type 0
-  Closed = Cycle n (λ i j. edge s i j + bit A i * delta j v + delta i v * bit B j)
+  abbrev CycleByEdges : Type 0
+  CycleByEdges = Cycle n (λ i j. edge s i j + bit A i * delta j v + delta i v * bit B j)
 
   -- 5, 6 and 8 of an insertion, where c says what a cycle is, and 7 of a deletion
   abbrev inserting : Type 0 → Conditions
-  inserting c = Some (λ i j. i ≡ j) gives 5 ∷ Some (λ i j. edge s i j ≡ 1) gives 6 ∷ c gives 8 ∷ []
+  inserting c = SomeNamed (λ i j. i ≡ j) gives 5 ∷ SomeNamed (λ i j. edge s i j ≡ 1) gives 6 ∷ c gives 8 ∷ []
 
   abbrev deleting : Conditions
-  deleting = Some (λ i j. edge s i j ≡ 0) gives 7 ∷ []
+  deleting = SomeNamed (λ i j. edge s i j ≡ 0) gives 7 ∷ []
 
-  some_iff : (P Q : ℕ → ℕ → Type 0) → ((i j : ℕ) → P i j ↔ Q i j) → SomeEdge n (at v A B) P ↔ Some Q
+  some_iff : (P Q : ℕ → ℕ → Type 0) → ((i j : ℕ) → P i j ↔ Q i j) → SomeEdge n (at v A B) P ↔ SomeNamed Q
   some_iff P Q h = (
     λ c. (c.0, c.2, c.1, c.3, (named_reflects v A B c.0 c.2).holds c.4, (h c.0 c.2).0 c.5),
     λ c. (c.0, c.2, c.1, c.3, (named_reflects v A B c.0 c.1).shows c.4, (h c.0 c.1).1 c.5),
   )
 
-  closing_of : Closes n (count n s) v (bit A) (bit B) → Closing
+  closing_of : Closes n (count n s) v (bit A) (bit B) → CycleByCounts
   closing_of (into a h p c) = inl (a, h, omega (arith, bit_lt A a), λ z. omega arith)
   closing_of (out b h p c) = inr (inl (b, h, omega (arith, bit_lt B b), λ z. omega arith))
   closing_of (through a b ha hb p q c) = inr (inr (a, b, ha, hb, omega (arith, bit_lt A a), omega (arith, bit_lt B b), λ z. omega arith))
 
-  of_closing : Closing → Closes n (count n s) v (bit A) (bit B)
+  of_closing : CycleByCounts → Closes n (count n s) v (bit A) (bit B)
   of_closing (inl (a, h, p, c)) = into a h (omega arith) (omega arith)
   of_closing (inr (inl (b, h, p, c))) = out b h (omega arith) (omega arith)
   of_closing (inr (inr (a, b, ha, hb, p, q, c))) = through a b ha hb (omega arith) (omega arith) (omega arith)
 
-  closed_iff : Cycle n (λ i j. changed true (named_at v A B i j) (edge s i j)) ↔ Closed
+  closed_iff : Cycle n (λ i j. changed true (named_at v A B i j) (edge s i j)) ↔ CycleByEdges
   closed_iff = (
     cycle_widen n _ _ (λ i j hi hj p. (named_edge v A B i j (edge s i j)).0 p),
     cycle_widen n _ _ (λ i j hi hj p. (named_edge v A B i j (edge s i j)).1 p),
@@ -126,11 +126,11 @@ module _ (n : ℕ) (s : Lent) where
     abbrev B : ℕ
     B = successors_of g
 
-    insertion_first : First (altering n s (argued n g (inserting n s v A B (Closing n s v A B)))) (edit_number (edit n g true) s)
+    insertion_first : First (altering n s (argued n g (inserting n s v A B (CycleByCounts n s v A B)))) (edit_number (edit n g true) s)
     insertion_first =
         let grounds = edit_grounds (edit n g true) s in
-        argued_under g (effects true n most_parallel g (opened n s) grounds) (inserting n s v A B (Closing n s v A B)) _
-        (inserting_of n s v A B grounds (Closing n s v A B) _ (closing_of n s v A B, of_closing n s v A B))
+        argued_under g (effects true n most_parallel g (opened n s) grounds) (inserting n s v A B (CycleByCounts n s v A B)) _
+        (inserting_of n s v A B grounds (CycleByCounts n s v A B) _ (closing_of n s v A B, of_closing n s v A B))
         (edit_first (edit n g true) s).first
 
     deletion_first : First (altering n s (argued n g (deleting n s v A B))) (edit_number (edit n g false) s)
@@ -140,11 +140,11 @@ module _ (n : ℕ) (s : Lent) where
         (deleting_of n s v A B grounds _) (edit_first (edit n g false) s).first
 
     -- a valid sheet has the number of words, and the model that it opens the number of vertices
-    insertion_valid : Valid n s → First (altering n s (argued n g (inserting n s v A B (Closed n s v A B)))) (edit_number (edit n g true) s)
+    insertion_valid : Valid n s → First (altering n s (argued n g (inserting n s v A B (CycleByEdges n s v A B)))) (edit_number (edit n g true) s)
     insertion_valid valid =
         let grounds = model_grounds (opened n s) (edit n g true) in
-        argued_under g (effects true n most_parallel g (opened n s) grounds) (inserting n s v A B (Closed n s v A B)) _
-        (inserting_of n s v A B grounds (Closed n s v A B) _ (closed_iff n s v A B))
+        argued_under g (effects true n most_parallel g (opened n s) grounds) (inserting n s v A B (CycleByEdges n s v A B)) _
+        (inserting_of n s v A B grounds (CycleByEdges n s v A B) _ (closed_iff n s v A B))
         (first_both (λ p. p, λ p. p) (first_both (λ d. absurd (d refl), λ d. absurd (length_good n s valid.shape.long d)) (λ f. f))
         (number_first (opened n s) s (valid_modelled valid) (edit n g true)))
 
@@ -152,14 +152,14 @@ module _ (n : ℕ) (s : Lent) where
 
   -- one edge from u to v is at u, with A empty and B = {v}; on any sheet a cycle is one by the counts
   pub insert_words : (u v : ℕ)
-      → First (altering n s (((n ≤ u) ⊎ (n ≤ v)) gives 3 ∷ inserting n s u 0 (2 ^ v) (Closing n s u 0 (2 ^ v)))) (edit_answer (insert_edge n u v) s).number
+      → First (altering n s (((n ≤ u) ⊎ (n ≤ v)) gives 3 ∷ inserting n s u 0 (2 ^ v) (CycleByCounts n s u 0 (2 ^ v)))) (edit_answer (insert_edge n u v) s).number
   insert_words u v = insertion_first (one u v)
 
   pub delete_words : (u v : ℕ) → First (altering n s (((n ≤ u) ⊎ (n ≤ v)) gives 3 ∷ deleting n s u 0 (2 ^ v))) (edit_answer (delete_edge n u v) s).number
   delete_words u v = deletion_first (one u v)
 
   pub insert_at_words : (v A B : ℕ)
-      → First (altering n s ((n ≤ v) gives 3 ∷ (Stray n A ⊎ Stray n B) gives 4 ∷ inserting n s v A B (Closing n s v A B))) (edit_answer (insert_edges_at n v A B) s).number
+      → First (altering n s ((n ≤ v) gives 3 ∷ (Stray n A ⊎ Stray n B) gives 4 ∷ inserting n s v A B (CycleByCounts n s v A B))) (edit_answer (insert_edges_at n v A B) s).number
   insert_at_words v A B = insertion_first (at v A B)
 
   pub delete_at_words : (v A B : ℕ)
@@ -169,11 +169,11 @@ module _ (n : ℕ) (s : Lent) where
   -- on a valid sheet it is one by the edges
   module _ (valid : Valid n s) where
     pub insert_valid_words : (u v : ℕ)
-        → First (altering n s (((n ≤ u) ⊎ (n ≤ v)) gives 3 ∷ inserting n s u 0 (2 ^ v) (Closed n s u 0 (2 ^ v)))) (edit_answer (insert_edge n u v) s).number
+        → First (altering n s (((n ≤ u) ⊎ (n ≤ v)) gives 3 ∷ inserting n s u 0 (2 ^ v) (CycleByEdges n s u 0 (2 ^ v)))) (edit_answer (insert_edge n u v) s).number
     insert_valid_words u v = insertion_valid (one u v) valid
 
     pub insert_at_valid_words : (v A B : ℕ)
-        → First (altering n s ((n ≤ v) gives 3 ∷ (Stray n A ⊎ Stray n B) gives 4 ∷ inserting n s v A B (Closed n s v A B))) (edit_answer (insert_edges_at n v A B) s).number
+        → First (altering n s ((n ≤ v) gives 3 ∷ (Stray n A ⊎ Stray n B) gives 4 ∷ inserting n s v A B (CycleByEdges n s v A B))) (edit_answer (insert_edges_at n v A B) s).number
     insert_at_valid_words v A B = insertion_valid (at v A B) valid
 
   -- ---- AN ACCEPTED EDIT of the edges g, on any sheet

@@ -1,7 +1,7 @@
 -- WHAT THE CALLS MEAN, in terms of paths and of valid sheets. Assumes nothing.
 use mathlib.Core.Path.{◌≡◌, sym, ap, subst, ◌∙◌}
 use mathlib.Core.List.{[]}
-use Prim.Native.Nat.{ℕ, ◌+◌, ◌-◌, ◌*◌, ◌%◌, ◌^◌, ◌≤◌, ◌<◌}
+use Prim.Native.Nat.{ℕ, ◌+◌, ◌*◌, ◌%◌, ◌^◌, ◌≤◌, ◌<◌}
 use native.Mathlib.Nat.{mod-eq_of_lt, zero-mul, mul-le-mul_right}
 use native.Mathlib.Decide.{ℕ_discrete}
 use native.Mathlib.Omega.{arith}
@@ -14,7 +14,6 @@ use Rattle.word.specs.Bit.{bit, bit_count}
 use Rattle.word.proofs.BitLaws.{bit_zero}
 use Rattle.word.proofs.CountLaws.{bit_count_below}
 use Rattle.graph.specs.Graph.{PathsExactly}
-use Rattle.graph.proofs.Bound.{bound}
 use Rattle.graph.proofs.Edges.{edges_le}
 use Rattle.graph.proofs.Walks.{edgeless_acyclic}
 use Rattle.sheet_theory.specs.Layout.{size, row_at, count_at, edge_at, empty_sheet, set_bits}
@@ -84,10 +83,6 @@ path_count_exact n s i j v hi hj =
     let z : (path_count_answer n s i j).number ≡ 0
     = (path_count_table n s i j 0).1 (shape_passed n s v.shape (vertex_conditions n i j []) 0 (vertex_good n i j hi hj)) in
     (z, subst (PathsExactly n (edge_at s.words) i j) (sym (decided_new (path_count_number n s i j) _ 0 z)) (v.counts i j hi hj))
-
--- and that is at most 2 ^ (n - 2) between two different vertices, so that with 64 vertices it fits a word
-pub valid_count_le : (n : ℕ) (s : Lent) → Valid n s → (i j : ℕ) → i < n → j < n → (i ≡ j → ⊥) → count_at n s.words i j ≤ 2 ^ (n - 2)
-valid_count_le n s v i j hi hj d = bound n (edge_at s.words) v.acyclic i j (count_at n s.words i j) hi hj d (v.counts i j hi hj)
 
 -- ---- valid sheets
 

@@ -21,7 +21,7 @@ use Rattle.edit_theory.proofs.OneEdit.{edit_exact}
 use Rattle.edit_theory.proofs.InWords.{insert_words, delete_words, insert_at_words, delete_at_words, insert_valid_words, insert_at_valid_words}
 use Rattle.edit_theory.proofs.InWords.{edit_length_words, edit_row_words, edit_named_words, edit_others_words, edit_value_words}
 use Rattle.edit_theory.proofs.InWords.{insert_count_words, delete_count_words}
-use Rattle.starred.specs.EveryCall.{edge, ones, Answers, Leaves, every, Stray, Some, Closing, Edited, laying, Insertion, Deletion, one, masks}
+use Rattle.starred.specs.EveryCall.{edge, ones, Answers, Leaves, every, Stray, SomeNamed, CycleByCounts, Edited, laying, Insertion, Deletion, one, masks}
 
 module _ (n : ℕ) (s : Lent) (g : Edges) where
   -- the vertex and the masks, and the edit with its answer and what it leaves
@@ -35,8 +35,8 @@ module _ (n : ℕ) (s : Lent) (g : Edges) where
   B = successors_of g
 
   -- a cycle among the edges of the sheet and all those of the edit together
-  abbrev Closed : Type 0
-  Closed = Cycle n (λ i j. edge s i j + bit A i * delta j v + delta i v * bit B j)
+  abbrev CycleByEdges : Type 0
+  CycleByEdges = Cycle n (λ i j. edge s i j + bit A i * delta j v + delta i v * bit B j)
 
   abbrev edit : Bool → Edit
   edit inserts = record { inserts = inserts; vertices = n; edges = g }
@@ -77,14 +77,14 @@ module _ (n : ℕ) (s : Lent) (g : Edges) where
 
     -- 7, after those
     abbrev lifting : Conditions
-    lifting = argued (Some n s v A B (λ i j. edge s i j ≡ 0) gives 7 ∷ [])
+    lifting = argued (SomeNamed n s v A B (λ i j. edge s i j ≡ 0) gives 7 ∷ [])
 
-    insertion : First (altering n s (laying n s v A B argued (Closing n s v A B))) (reply true).number
-        → (Valid n s → First (altering n s (laying n s v A B argued Closed)) (reply true).number)
+    insertion : First (altering n s (laying n s v A B argued (CycleByCounts n s v A B))) (reply true).number
+        → (Valid n s → First (altering n s (laying n s v A B argued CycleByEdges)) (reply true).number)
         → Insertion n s v A B first (reply true) (left true)
     insertion f h = record {
-      answers = answered true _ (altering_words n s (laying n s v A B argued (Closing n s v A B)) _ f);
-      valid = λ x. altering_words n s (laying n s v A B argued Closed) _ (h x);
+      answers = answered true _ (altering_words n s (laying n s v A B argued (CycleByCounts n s v A B)) _ f);
+      valid = λ x. altering_words n s (laying n s v A B argued CycleByEdges) _ (h x);
       leaves = leaving true _ (λ z i j hi hj. insert_count_words n s g i j hi hj z);
     }
 

@@ -1,8 +1,11 @@
 -- DOCUMENT 01'S TABLE AS ONE STATEMENT. For every n, every length, all words and all bytes: what each of the thirteen calls answers and
--- what it leaves of each buffer. A call is named by the definition that its contract in crates/lugloquat/src/lib.rt cites; what is said of
--- it is spelled out here. Stations, pipes, routes, rings, laying, lifting, the survey and the test are vertices, edges, paths, cycles,
--- insertion, deletion, recount and validate. `sum n f` is f 0 + .. + f (n - 1); `delta i j` is 1 if i is j, else 0; `P gives k` is a row of
--- the table; `First` is the number of the first row of a list that holds, and 0 if none does. Definitions only. Assumes nothing.
+-- what it leaves of each buffer. A call stands here under the names that its contract cites (`ensures`, crates/lugloquat/src/lib.rt), such
+-- as `empty_answer` and `empty_after`; what is said of these is spelled out. Stations, pipes, routes and rings are vertices, edges, paths
+-- and cycles; laying and lifting are insertion and deletion; the survey and the test are recount and validate. A `Lent` has the words of a
+-- sheet, an `Answer` a number, a place and a value. `get_or l x 0` is the entry of l at the place x, from 0 up, and 0 past its end; `take m`
+-- keeps the first m entries, and `drop m` the others; `bit x j` is bit j of x; x - y is 0 if y is greater; `sum n f` is the sum of f 0 to
+-- f (n - 1); `delta i j` is 1 if i is j, else 0. `P gives k` is a row of the table; `First` is the number of the first row of a list that
+-- holds, and 0 if none does. Definitions only. Assumes nothing.
 use Rattle.std.specs.Prelude.{◌≡◌, ◌⊎◌, ◌↔◌, List, [], ◌∷◌, ℕ, zero, suc, ◌+◌, ◌-◌, ◌*◌, ◌/◌, ◌%◌, ◌^◌, ◌≤◌, ◌<◌, length, get_or, take, drop}
 use Rattle.sums.specs.Sum.{sum, delta}
 use Rattle.word.specs.Bit.{bit}
@@ -65,8 +68,8 @@ module _ (n : ℕ) (s : Lent) (v A B : ℕ) where
   Named i j = ((bit A i ≡ 1) × (j ≡ v)) ⊎ ((i ≡ v) × (bit B j ≡ 1))
 
   -- one of them, between vertices below n, is a P
-  abbrev pub Some : (ℕ → ℕ → Type 0) → Type 0
-  Some P = (i : ℕ) × (j : ℕ) × (i < n) × (j < n) × Named i j × P i j
+  abbrev pub SomeNamed : (ℕ → ℕ → Type 0) → Type 0
+  SomeNamed P = (i : ℕ) × (j : ℕ) × (i < n) × (j < n) × Named i j × P i j
 
   -- F(i) and T(j), by the counts before the edit
   abbrev pub F : ℕ → ℕ
@@ -76,8 +79,8 @@ module _ (n : ℕ) (s : Lent) (v A B : ℕ) where
   T j = sum n (λ b. bit B b * count n s b j)
 
   -- a cycle by the counts: count(v, a) isn't zero for some a in A, or count(b, v) for some b in B, or count(b, a) for some pair of them
-  abbrev pub Closing : Type 0
-  Closing =
+  abbrev pub CycleByCounts : Type 0
+  CycleByCounts =
       ((a : ℕ) × (a < n) × (bit A a ≡ 1) × (¬ (count n s v a ≡ 0)))
       ⊎ ((b : ℕ) × (b < n) × (bit B b ≡ 1) × (¬ (count n s b v ≡ 0)))
       ⊎ ((a : ℕ) × (b : ℕ) × (a < n) × (b < n) × (bit A a ≡ 1) × (bit B b ≡ 1) × (¬ (count n s b a ≡ 0)))
@@ -94,17 +97,17 @@ module _ (n : ℕ) (s : Lent) (v A B : ℕ) where
   -- insertion, where `first` puts 1 to 4 before. 5: from a vertex to itself. 6: already there. 8: a cycle, by the counts; on a valid sheet
   -- that is a cycle among the edges of the sheet and all those of the edit together.
   abbrev pub laying : (Conditions → Conditions) → Type 0 → Conditions
-  laying first cycle = first (Some (λ i j. i ≡ j) gives 5 ∷ Some (λ i j. edge s i j ≡ 1) gives 6 ∷ cycle gives 8 ∷ [])
+  laying first cycle = first (SomeNamed (λ i j. i ≡ j) gives 5 ∷ SomeNamed (λ i j. edge s i j ≡ 1) gives 6 ∷ cycle gives 8 ∷ [])
 
   pub record Insertion (first : Conditions → Conditions) (r : Answer) (t : Lent) : Type 0 where
-    pub answers : Answers (laying first Closing) r (r.value ≡ ones n t)
+    pub answers : Answers (laying first CycleByCounts) r (r.value ≡ ones n t)
     pub valid : Valid n s → First (laying first (Cycle n (λ i j. edge s i j + bit A i * delta j v + delta i v * bit B j))) r.number
     pub leaves : Leaves r s t (Edited t 1 (λ i j.
         count n t i j ≡ (count n s i j + (count n s i v * T j + F i * count n s v j + F i * T j)) % 2 ^ 64))
 
-  -- deletion. 7: not there. What document 01 subtracts is here added on the other side; one word alone is such a count.
+  -- deletion. 7: not there. What document 01 subtracts is here added to the count afterwards; only one number below 2^64 satisfies this.
   pub record Deletion (first : Conditions → Conditions) (r : Answer) (t : Lent) : Type 0 where
-    pub answers : Answers (first (Some (λ i j. edge s i j ≡ 0) gives 7 ∷ [])) r (r.value ≡ ones n t)
+    pub answers : Answers (first (SomeNamed (λ i j. edge s i j ≡ 0) gives 7 ∷ [])) r (r.value ≡ ones n t)
     pub leaves : Leaves r s t (Edited t 0 (λ i j.
         (count n t i j < 2 ^ 64)
         × ((count n t i j + (count n s i v * T j + F i * count n s v j)) % 2 ^ 64 ≡ (count n s i j + F i * T j) % 2 ^ 64)))
@@ -116,7 +119,7 @@ one n s u v l = every n s (((n ≤ u) ⊎ (n ≤ v)) gives 3 ∷ l)
 abbrev pub masks : ℕ → Lent → ℕ → ℕ → ℕ → Conditions → Conditions
 masks n s v A B l = every n s ((n ≤ v) gives 3 ∷ (Stray n A ⊎ Stray n B) gives 4 ∷ l)
 
--- p is a path from i to j, and k paths come before it: at the first place where the two differ, x, that path's vertex is the lower
+-- p is a path from i to j, and exactly k such paths l come before it: at the first place where the two differ, x, l has the lower vertex
 abbrev pub Ranked : ℕ → Lent → ℕ → ℕ → ℕ → List ℕ → Type 0
 Ranked n s i j k p = IsPath n (edge s) i j p × Exactly (λ l. IsPath n (edge s) i j l
     × ((x : ℕ) × (x < length l) × (x < length p) × ((y : ℕ) → y < x → get_or l y 0 ≡ get_or p y 0) × (get_or l x 0 < get_or p x 0))) k
@@ -131,28 +134,28 @@ Form bytes m letter u v =
     (u < 100) × (v < 100)
     × (take 8 (drop (8 * m) bytes) ≡ letter ∷ 32 ∷ (48 + u / 10) ∷ (48 + u % 10) ∷ 32 ∷ (48 + v / 10) ∷ (48 + v % 10) ∷ 10 ∷ [])
 
--- the record m of a plan on the sheet s has the number k and leaves t: L (76) inserts an edge, T (84) deletes one, and any other is 14
+-- the record m of a plan, from 0 up, has on s the number k and leaves t: L (76) inserts an edge, T (84) deletes one, and any other is 14
 pub data RecordGives (n : ℕ) (plan : List ℕ) (m : ℕ) (s : Lent) (k : ℕ) (t : Lent) : Type 0 where
   inserts : (u v : ℕ) → Form plan m 76 u v → k ≡ (edit_answer (insert_edge n u v) s).number → t ≡ edit_after (insert_edge n u v) s → RecordGives n plan m s k t
   deletes : (u v : ℕ) → Form plan m 84 u v → k ≡ (edit_answer (delete_edge n u v) s).number → t ≡ edit_after (delete_edge n u v) s → RecordGives n plan m s k t
   malformed : ((u v : ℕ) → (¬ (Form plan m 76 u v)) × (¬ (Form plan m 84 u v))) → k ≡ 14 → t ≡ s → RecordGives n plan m s k t
 
 -- the first m records of a plan, applied in order to s and none of them refused, leave t
-abbrev pub Taken : ℕ → List ℕ → Lent → ℕ → Lent → Type 0
-Taken n plan s zero t = t ≡ s
-Taken n plan s (suc m) t = (q : Lent) × Taken n plan s m q × RecordGives n plan m q 0 t
+abbrev pub RecordsTaken : ℕ → List ℕ → Lent → ℕ → Lent → Type 0
+RecordsTaken n plan s zero t = t ≡ s
+RecordsTaken n plan s (suc m) t = (q : Lent) × RecordsTaken n plan s m q × RecordGives n plan m q 0 t
 
 -- 9: the sheet is not valid. 13: the length is not a multiple of 8, or over 32,768 bytes.
 abbrev pub before_records : ℕ → Lent → List ℕ → Conditions
 before_records n s plan = every n s ((¬ (Valid n s)) gives 9 ∷ ((¬ (length plan % 8 ≡ 0)) ⊎ (32768 < length plan)) gives 13 ∷ [])
 
--- a plan is refused before its first record; or all its records are taken; or one is refused, at its place from 1 up, and s is as it was
-pub data Reading (n : ℕ) (s : Lent) (plan : List ℕ) (r : Answer) (t : Lent) : Type 0 where
-  early : First (before_records n s plan) r.number → ¬ (r.number ≡ 0) → r.place ≡ 0 → r.value ≡ 0 → t ≡ s → Reading n s plan r t
-  taken : First (before_records n s plan) 0 → r.number ≡ 0 → r.place ≡ 0 → r.value ≡ ones n t → Taken n plan s (length plan / 8) t → Valid n t
-      → Reading n s plan r t
-  stopped : (m : ℕ) (q left : Lent) → First (before_records n s plan) 0 → m < length plan / 8 → Taken n plan s m q → RecordGives n plan m q r.number left
-      → ¬ (r.number ≡ 0) → r.place ≡ suc m → r.value ≡ 0 → t ≡ s → Reading n s plan r t
+-- a plan is refused before its first record; or all its records are taken; or the record m is refused on q, which those before it left
+pub data PlanRead (n : ℕ) (s : Lent) (plan : List ℕ) (r : Answer) (t : Lent) : Type 0 where
+  early : First (before_records n s plan) r.number → ¬ (r.number ≡ 0) → r.place ≡ 0 → r.value ≡ 0 → t ≡ s → PlanRead n s plan r t
+  taken : First (before_records n s plan) 0 → r.number ≡ 0 → r.place ≡ 0 → r.value ≡ ones n t → RecordsTaken n plan s (length plan / 8) t → Valid n t
+      → PlanRead n s plan r t
+  stopped : (m : ℕ) (q rest : Lent) → First (before_records n s plan) 0 → m < length plan / 8 → RecordsTaken n plan s m q → RecordGives n plan m q r.number rest
+      → ¬ (r.number ≡ 0) → r.place ≡ suc m → r.value ≡ 0 → t ≡ s → PlanRead n s plan r t
 
 -- THE STATEMENT
 pub record EveryCall (n : ℕ) (s : Lent) : Type 0 where
@@ -164,27 +167,20 @@ pub record EveryCall (n : ℕ) (s : Lent) : Type 0 where
   -- an empty sheet is the valid sheet without edges; the value is 0
   pub empty : let r = empty_answer n s in let t = empty_after n s in
       Answers (every n s []) r (r.value ≡ 0) × Leaves r s t (Valid n t × ((i : ℕ) → i < n → row t i ≡ 0))
-  -- a count is the word, on any sheet
-  pub path_count : (i j : ℕ) → let r = path_count_answer n s i j in
-      Answers (every n s (((n ≤ i) ⊎ (n ≤ j)) gives 3 ∷ [])) r (r.value ≡ count n s i j)
-  -- the recount. 4: a row has a bit at n or above. 8: a cycle. The rows stay, and each count is the number of paths.
-  pub recount : (r : Answer) (t : Lent) → Recount n s r t →
-      Answers (every n s (((i : ℕ) × (i < n) × Stray n (row s i)) gives 4 ∷ Cycle n (edge s) gives 8 ∷ [])) r (r.value ≡ ones n s)
-      × Leaves r s t ((length t.words ≡ length s.words) × ((i : ℕ) → i < n → row t i ≡ row s i)
-      × ((i j : ℕ) → i < n → j < n → Exactly (IsPath n (edge s) i j) (count n t i j)))
-  -- the test of a stored sheet says 1 exactly if the sheet is valid
-  pub validate : (r : Answer) → Validate n s r → Answers (every n s []) r (Tells r (Valid n s))
   -- the four edits; one edge from u to v is the edit at u with A empty and B = {v}
   pub insert : (u v : ℕ) → let e = insert_edge n u v in Insertion n s u 0 (2 ^ v) (one n s u v) (edit_answer e s) (edit_after e s)
   pub delete : (u v : ℕ) → let e = delete_edge n u v in Deletion n s u 0 (2 ^ v) (one n s u v) (edit_answer e s) (edit_after e s)
   pub insert_at : (v A B : ℕ) → let e = insert_edges_at n v A B in Insertion n s v A B (masks n s v A B) (edit_answer e s) (edit_after e s)
   pub delete_at : (v A B : ℕ) → let e = delete_edges_at n v A B in Deletion n s v A B (masks n s v A B) (edit_answer e s) (edit_after e s)
-  -- supply without an edge. 7: the edge is not there. On a valid sheet, 1 exactly if there is a path over the other edges.
+  -- a count is the word, on any sheet
+  pub path_count : (i j : ℕ) → let r = path_count_answer n s i j in
+      Answers (every n s (((n ≤ i) ⊎ (n ≤ j)) gives 3 ∷ [])) r (r.value ≡ count n s i j)
+  -- supply without an edge, by ≠; on a valid sheet, whether there is a path over the other edges. 7: the edge is not there.
   pub reaches_without : (i j u v : ℕ) → let r = reaches_without_answer n s i j u v in
       Answers (every n s (((n ≤ i) ⊎ (n ≤ j) ⊎ (n ≤ u) ⊎ (n ≤ v)) gives 3 ∷ (edge s u v ≡ 0) gives 7 ∷ [])) r
       (Tells r (¬ (count n s i u * count n s v j % 2 ^ 64 ≡ count n s i j)))
       × (Valid n s → r.number ≡ 0 → Tells r ((l : List ℕ) × IsPath n (λ a b. edge s a b - delta a u * delta b v) i j l))
-  -- the path of rank k, walked over at most n vertices. 10: under n bytes. 11: k is not below the count. 9: the walk has no vertices.
+  -- the path of rank k, walked over at most n vertices. 10: under n bytes. 11: k is not below the count. 9: the walk does not arrive.
   pub unrank : (i j k : ℕ) (before : List ℕ) →
       let r = unrank_answer n s i j k (length before) in let after = unrank_after n s i j k before in
       let p = walked (edge s) (count n s) j n n i k in
@@ -200,8 +196,15 @@ pub record EveryCall (n : ℕ) (s : Lent) : Type 0 where
       ∷ ((length p ≡ 0) ⊎ (n < length p) ⊎ ((x : ℕ) × (suc x < length p) × (edge s (at x) (at (suc x)) ≡ 0))) gives 12 ∷ [])) r
       (r.value ≡ sum (length p - 1) (λ x. sum (at (suc x)) (λ b. edge s (at x) b * count n s b end)) % 2 ^ 64)
       × (Valid n s → r.number ≡ 0 → Ranked n s (at 0) end r.value p)
-  -- a plan read
-  pub read_plan : (plan : List ℕ) (r : Answer) (t : Lent) → ReadPlan n s plan r t → Reading n s plan r t
+  -- the recount. 4: a row has a bit at n or above. 8: a cycle. The rows stay, and each count is the number of paths.
+  pub recount : (r : Answer) (t : Lent) → Recount n s r t →
+      Answers (every n s (((i : ℕ) × (i < n) × Stray n (row s i)) gives 4 ∷ Cycle n (edge s) gives 8 ∷ [])) r (r.value ≡ ones n s)
+      × Leaves r s t ((length t.words ≡ length s.words) × ((i : ℕ) → i < n → row t i ≡ row s i)
+      × ((i j : ℕ) → i < n → j < n → Exactly (IsPath n (edge s) i j) (count n t i j)))
+  -- the test of a stored sheet says 1 exactly if the sheet is valid
+  pub validate : (r : Answer) → Validate n s r → Answers (every n s []) r (Tells r (Valid n s))
+  -- a plan is read as `PlanRead` says
+  pub read_plan : (plan : List ℕ) (r : Answer) (t : Lent) → ReadPlan n s plan r t → PlanRead n s plan r t
   -- a plan written. 10: under 8 bytes an edge. A record stands after as many others as there are edges before its own, by from, then to.
   pub write_plan : (before : List ℕ) (r : Answer) (after : List ℕ) → WritePlan n s before r after →
       Answers (every n s ((¬ (Valid n s)) gives 9 ∷ (length before < 8 * ones n s) gives 10 ∷ [])) r (r.value ≡ 8 * ones n s)
@@ -211,6 +214,6 @@ pub record EveryCall (n : ℕ) (s : Lent) : Type 0 where
   pub maker : (most_vertices ≡ 64) × Valid 64 (lent (empty_sheet most_vertices)) × ((i : ℕ) → i < 64 → row (lent (empty_sheet most_vertices)) i ≡ 0)
   pub sizes : (most_edges ≡ 2016) × (Valid n s → (length s.words ≤ 4160) × (ones n s ≤ 2016))
       × ((t : Lent) × Valid 64 t × (length t.words ≡ 4160) × (ones 64 t ≡ 2016))
-  -- a number of paths fits a word, and is at most 2 to the power n - 2 for n of 2 or more
+  -- without a cycle, a number of paths fits a word with at most 64 vertices, and is at most 2 to the power n - 2 for n of 2 or more
   pub bound : (w : ℕ → ℕ → ℕ) → ¬ (Cycle n w) → (i j k : ℕ) → i < n → j < n → Exactly (IsPath n w i j) k
       → (n ≤ 64 → k < 2 ^ 64) × (2 ≤ n → k ≤ 2 ^ (n - 2))
