@@ -20,16 +20,17 @@ use Rattle.graph.proofs.Counting.{walk_path}
 use Rattle.graph.proofs.Using.{path_unnamed_iff}
 use Rattle.text.specs.Text.{written}
 use Rattle.text.proofs.TextLaws.{written_length, written_after, written_at}
+use Rattle.answer.specs.declared.Answer.{Answer}
 use Rattle.answer.specs.Table.{◌gives◌, Conditions, First}
 use Rattle.sheet_theory.specs.Lent.{Lent}
 use Rattle.sheet_theory.specs.Conditions.{vertex_conditions, sized}
 use Rattle.sheet_theory.specs.Valid.{Valid}
 use Rattle.sheet_theory.proofs.ValidLaws.{edge_le, valid_count}
-use Rattle.answer.proofs.TableLaws.{first_cong, first_under}
+use Rattle.answer.proofs.TableLaws.{first_both, first_cong, first_under}
 use Rattle.answer.proofs.AnswerLaws.{decided_new, decided_old, answer_ext}
 use Rattle.answer.proofs.ByNumber.{first_not}
 use Rattle.query_theory.specs.Before.{Before}
-use Rattle.query_theory.specs.Walk.{walked, Arrives}
+use Rattle.query_theory.specs.Walk.{walked}
 use Rattle.query_theory.specs.PassedOver.{passed_over, end}
 use Rattle.query_theory.specs.ReachesWithout.{reaches_without, reaches_without_answer, PathWithout}
 use Rattle.query_theory.specs.Unrank.{unrank_conditions, unrank_answer, unrank_after}
@@ -37,8 +38,8 @@ use Rattle.query_theory.specs.Rank.{SomeNoVertex, Gap, Broken, path_conditions, 
 use Rattle.query_theory.proofs.BeforeLaws.{before_first}
 use Rattle.query_theory.proofs.RankLaws.{walked_path, before_exactly}
 use Rattle.query_theory.proofs.ByPlace.{some_no_vertex_places, gap_places, end_places, passed_over_places}
-use Rattle.query_theory.proofs.WalkPlaces.{walked_places}
-use Rattle.query_theory.proofs.Refusals.{reaches_without_first, unrank_first, rank_first}
+use Rattle.query_theory.proofs.WalkPlaces.{Arrives, walked_places}
+use Rattle.query_theory.proofs.Refusals.{length_empty, reaches_without_first, unrank_first, rank_first}
 use Rattle.query_theory.proofs.Meaning.{reaches_without_iff, unrank_arrives, rank_exact}
 
 -- l comes before p in the order of paths: its vertex is the lower at the first place where they differ
@@ -154,63 +155,118 @@ module _ (n : ℕ) (s : Lent) where
   -- ---- the path of a rank
 
   module _ (i j k : ℕ) where
-    -- the walk arrives, and its vertices are p, exactly if each place of p is as document 01 walks it, over at most n vertices
-    pub walked_words : (p : List ℕ) → ((walked edge count j n n i k ≡ p) × (0 < length p)) ↔ ((left : ℕ → ℕ) × Arrives n edge count j n i k p left)
-    walked_words p = walked_places n edge count j (edge_le s.words) n i k p
+    -- p is the walk from i to j by the rank k: at most n vertices, and left x is what is left of the rank at the place x. From a vertex that
+    -- isn't j it goes along an edge to a vertex below n: the counts of the edges to lower vertices are taken off, and what is left is below
+    -- the count of that one. On arriving nothing is left.
+    abbrev IsWalk : List ℕ → Type 0
+    IsWalk p =
+        let at : ℕ → ℕ = λ x. get_or p x 0 in
+        let last : ℕ = length p - 1 in
+        (left : ℕ → ℕ) × (0 < length p) × (length p ≤ n) × (at 0 ≡ i) × (left 0 ≡ k) × (at last ≡ j) × (left last ≡ 0)
+        × ((x : ℕ) → x < last → (¬ (at x ≡ j)) × (at (suc x) < n) × (edge (at x) (at (suc x)) ≡ 1) × (left (suc x) < count (at (suc x)) j)
+        × (left x ≡ sum (at (suc x)) (λ b. edge (at x) b * count b j) + left (suc x)))
 
-    -- so it has at most n
-    walked_short : length (walked edge count j n n i k) ≤ n
-    walked_short =
-        elim (dec_lt 0 (length (walked edge count j n n i k))) [
-          | yes h ↦ ((walked_words (walked edge count j n n i k)).0 (refl, h)).1.short
-          | no h ↦ omega arith
-        ]
+    is_walk : (p : List ℕ) → ((left : ℕ → ℕ) × Arrives n edge count j n i k p left) ↔ IsWalk p
+    is_walk p = (
+      λ a.
+          let r = a.1 in
+          let last = r.to (length p - 1) (omega (arith, r.some)) in (
+            a.0,
+            r.some,
+            r.short,
+            r.from,
+            r.whole,
+            last.0,
+            last.1,
+            λ x h.
+                let t = r.steps x (omega arith) in
+                (t.away, t.vertex, omega (arith, t.edge, edge_le s.words (get_or p x 0) (get_or p (suc x) 0)), t.below, t.taken),
+          ),
+      λ a. (
+        a.0,
+        record {
+          some = a.1;
+          short = a.2;
+          from = a.3;
+          whole = a.4;
+          steps = λ x h. let t = a.7 x (omega arith) in record { away = t.0; vertex = t.1; edge = omega (arith, t.2); taken = t.4; below = t.3 };
+          to = λ x h. let e : x ≡ length p - 1 = omega arith in rw e (a.5, a.6);
+        },
+      ),
+    )
+
+    -- that is what `walked` gives, and where there is no such walk it gives no vertices
+    pub walked_words : (p : List ℕ) → ((walked edge count j n n i k ≡ p) × (0 < length p)) ↔ IsWalk p
+    walked_words p =
+        let e = walked_places n edge count j (edge_le s.words) n i k p in
+        let f = is_walk p in
+        (λ h. f.0 (e.0 h), λ h. e.1 (f.1 h))
+
+    -- a list of vertices is empty, or it has some
+    dec_some : (p : List ℕ) → ¬ (p ≡ []) → 0 < length p
+    dec_some [] d = absurd (d refl)
+    dec_some (a ∷ p) d = omega arith
+
+    none_iff : (walked edge count j n n i k ≡ []) ↔ (¬ ((p : List ℕ) × IsWalk p))
+    none_iff =
+        let p = walked edge count j n n i k in (
+          λ e a. let q = (walked_words a.0).1 a.1 in omega (arith, q.1, ap length (sym q.0 ∙ e)),
+          λ d. elim (dec_lt 0 (length p)) [ yes h ↦ absurd (d (p, (walked_words p).0 (refl, h))) | no h ↦ length_empty p (omega arith) ],
+        )
 
     module _ (before : List ℕ) where
-      -- 3: one of the two is n or more. 10: the buffer is under n bytes. 11: k is not below the count. 9: the walk does not arrive. The value
-      -- is how many vertices the walk has.
+      abbrev r : Answer
+      r = unrank_answer n s i j k (length before)
+
+      abbrev after : List ℕ
+      after = unrank_after n s i j k before
+
+      -- 3: one of the two is n or more. 10: the buffer is under n bytes. 11: k is not below the count. And then the conditions l.
+      abbrev looked : Conditions → Conditions
+      looked l = ((n ≤ i) ⊎ (n ≤ j)) gives 3 ∷ (length before < n) gives 10 ∷ (count i j ≤ k) gives 11 ∷ l
+
+      -- 9: there is no such walk
+      abbrev astray : Conditions
+      astray = (¬ ((p : List ℕ) × IsWalk p)) gives 9 ∷ []
+
+      -- an accepted call finds a walk; the value is how many vertices it has, these fill the first places of the buffer, and the rest are
+      -- unchanged; a refusal changes none
       pub unrank_words :
-          let r = unrank_answer n s i j k (length before) in
-          let p = walked edge count j n n i k in
-          First (sized n s (((n ≤ i) ⊎ (n ≤ j)) gives 3 ∷ (length before < n) gives 10 ∷ (count i j ≤ k) gives 11 ∷ (p ≡ []) gives 9 ∷ [])) r.number
+          First (sized n s (looked astray)) r.number
           × (r.place ≡ 0)
-          × (r.number ≡ 0 → r.value ≡ length p)
-          × (¬ (r.number ≡ 0) → r.value ≡ 0)
-      unrank_words = ((unrank_first n s i j k (length before)).first, refl, decided_new _ _ 0, decided_old _ _ 0)
-
-      -- the walk fills the first places of the buffer, and the rest are unchanged; a refusal changes none
-      pub unrank_leaves_words :
-          let r = unrank_answer n s i j k (length before) in
-          let after = unrank_after n s i j k before in
+          × (r.number ≡ 0 → (p : List ℕ) × IsWalk p × (r.value ≡ length p) × (length after ≡ length before)
+          × ((x : ℕ) → length p ≤ x → get_or after x 0 ≡ get_or before x 0) × ((x : ℕ) → x < length p → get_or after x 0 ≡ get_or p x 0))
+          × (¬ (r.number ≡ 0) → (r.value ≡ 0) × (after ≡ before))
+      unrank_words =
           let p = walked edge count j n n i k in
-          (r.number ≡ 0 → (length after ≡ length before) × ((x : ℕ) → length p ≤ x → get_or after x 0 ≡ get_or before x 0)
-          × ((x : ℕ) → x < length p → get_or after x 0 ≡ get_or p x 0))
-          × (¬ (r.number ≡ 0) → after ≡ before)
-      unrank_leaves_words = (
-        λ z.
-            let p = walked edge count j n n i k in
-            let e : unrank_after n s i j k before ≡ written p before = decided_new _ (written p before) before z in
-            let room = first_not (unrank_conditions n s i j k (length before)) 0 (subst (First (unrank_conditions n s i j k (length before))) z unrank_words.0) 10 refl in
-            rw e (written_length p before (omega (arith, walked_short, room)), written_after p before, written_at p before),
-        decided_old _ _ before,
-      )
+          let cs : Conditions = unrank_conditions n s i j k (length before) in
+          let f : First cs r.number = (unrank_first n s i j k (length before)).first in (
+            first_under (sized n s (looked [])) ((p ≡ []) gives 9 ∷ []) astray _ (first_both none_iff (λ h. h)) f,
+            refl,
+            λ z.
+                let e : after ≡ written p before = decided_new _ (written p before) before z in
+                let g = subst (First cs) z f in
+                let w = (walked_words p).0 (refl, dec_some p (first_not cs 0 g 9 refl)) in
+                let room : length p ≤ length before = omega (arith, w.2, first_not cs 0 g 10 refl) in
+                (p, w, decided_new _ _ 0 z, rw e (written_length p before room), rw e (written_after p before), rw e (written_at p before)),
+            λ d. (decided_old _ _ 0 d, decided_old _ _ before d),
+          )
 
-      -- on a valid sheet it arrives, and the walk is the path of rank k
-      pub unrank_valid_words : Valid n s →
-          let r = unrank_answer n s i j k (length before) in
-          (¬ (r.number ≡ 9)) × (r.number ≡ 0 → Ranked i j k (walked edge count j n n i k))
+      -- on a valid sheet there is one, and it is the path of rank k
+      pub unrank_valid_words : Valid n s → (¬ (r.number ≡ 9)) × (r.number ≡ 0 → (p : List ℕ) → IsWalk p → Ranked i j k p)
       unrank_valid_words valid = (
         unrank_arrives n s valid i j k (length before),
-        λ z.
+        λ z p h.
             let cs : Conditions = unrank_conditions n s i j k (length before) in
-            let f = subst (First cs) z unrank_words.0 in
+            let f = subst (First cs) z (unrank_first n s i j k (length before)).first in
             let d = first_not cs 0 f 3 refl in
             let w = walked_path n edge count valid.acyclic (edge_le s.words) (valid_count n s valid) i j k
             (lt_of_not-le (λ l. d (inl l))) (lt_of_not-le (λ l. d (inr l))) (lt_of_not-le (first_not cs 0 f 11 refl)) in
-            let p = walked edge count j n n i k in
-            ranked_of i j k p w.0
-            (subst (PathsWithExactly n edge i j (λ l. Before l p)) w.1
-            (before_exactly n edge count valid.acyclic (edge_le s.words) (valid_count n s valid) i j p w.0)),
+            let q = walked edge count j n n i k in
+            subst (Ranked i j k) ((walked_words p).1 h).0
+            (ranked_of i j k q w.0
+            (subst (PathsWithExactly n edge i j (λ l. Before l q)) w.1
+            (before_exactly n edge count valid.acyclic (edge_le s.words) (valid_count n s valid) i j q w.0))),
       )
 
   -- ---- the rank of a path

@@ -23,7 +23,7 @@ use Rattle.query_theory.specs.Rank.{SomeNoVertex, some_no_vertex, Gap, gap, Brok
 
 -- ---- tests that decide
 
-length_empty : (l : List ℕ) → length l ≡ 0 → l ≡ []
+pub length_empty : (l : List ℕ) → length l ≡ 0 → l ≡ []
 length_empty [] e = refl
 length_empty (x ∷ l) e = absurd (omega arith)
 

@@ -3,28 +3,48 @@
 use mathlib.Core.Path.{◌≡◌, refl, sym, ap, ◌∙◌}
 use mathlib.Core.Logic.{◌⊎◌, inl, inr, ◌↔◌}
 use mathlib.Core.List.{List, [], ◌∷◌}
-use Prim.Native.Nat.{ℕ, zero, suc, ◌≤◌, ◌<◌}
+use Prim.Native.Nat.{ℕ, zero, suc, ◌+◌, ◌*◌, ◌≤◌, ◌<◌}
 use native.Mathlib.Decide.{ℕ_discrete}
 use native.Mathlib.Omega.{arith}
 use lib.ListN.{length, get_or}
-use Rattle.query_theory.specs.Walk.{Turn, goes, passes, headed, tried, walked, WalkStep, Arrives}
+use Rattle.sums.specs.Sum.{sum}
+use Rattle.query_theory.specs.Walk.{Turn, goes, passes, headed, tried, walked}
 use Rattle.query_theory.specs.PassedOver.{passed}
 use Rattle.query_theory.proofs.WalkLaws.{walked_none, walked_here, walked_left, walked_goes, walked_passes, tried_goes, tried_of}
 
+-- of walks to j in a graph of n vertices
 module _ (n : ℕ) (w C : ℕ → ℕ → ℕ) (j : ℕ) where
+  -- a step from a, where k is left of the rank, to b, where k' is left: the counts to j along the edges from a to the vertices below b are
+  -- taken off, and what is left is below the count from b
+  pub record WalkStep (a b k k' : ℕ) : Type 0 where
+    pub away : ¬ (a ≡ j)
+    pub vertex : b < n
+    pub edge : 0 < w a b
+    pub taken : k ≡ sum b (λ c. w a c * C c j) + k'
+    pub below : k' < C b j
+
+  -- p are the vertices of a walk from i to j by the rank k, at most m of them, where left x is what is left of the rank at the place x
+  pub record Arrives (m i k : ℕ) (p : List ℕ) (left : ℕ → ℕ) : Type 0 where
+    pub some : 0 < length p
+    pub short : length p ≤ m
+    pub from : get_or p 0 0 ≡ i
+    pub whole : left 0 ≡ k
+    pub steps : (x : ℕ) → suc x < length p → WalkStep (get_or p x 0) (get_or p (suc x) 0) (left x) (left (suc x))
+    pub to : (x : ℕ) → suc x ≡ length p → (get_or p x 0 ≡ j) × (left x ≡ 0)
+
   module _ (one : (i a : ℕ) → w i a ≤ 1) where
     -- ---- the walk has such places
 
     -- the walk from i by the rank k, of at most m vertices, arrives
     abbrev Found : ℕ → ℕ → ℕ → Type 0
-    Found m i k = (l : List ℕ) × (left : ℕ → ℕ) × (walked w C j n m i k ≡ i ∷ l) × Arrives n w C j m i k (i ∷ l) left
+    Found m i k = (l : List ℕ) × (left : ℕ → ℕ) × (walked w C j n m i k ≡ i ∷ l) × Arrives m i k (i ∷ l) left
 
     -- a number, and then those that f gives
     abbrev onto : ℕ → (ℕ → ℕ) → ℕ → ℕ
     onto k f zero = k
     onto k f (suc x) = f x
 
-    arrives_here : (m i k : ℕ) → i ≡ j → k ≡ 0 → Arrives n w C j (suc m) i k (i ∷ []) (onto k (λ x. 0))
+    arrives_here : (m i k : ℕ) → i ≡ j → k ≡ 0 → Arrives (suc m) i k (i ∷ []) (onto k (λ x. 0))
     arrives_here m i k e z = record {
       some = omega arith;
       short = omega arith;
@@ -39,7 +59,7 @@ module _ (n : ℕ) (w C : ℕ → ℕ → ℕ) (j : ℕ) where
         to (suc x) h = absurd (omega arith)
 
     -- a vertex put before a walk
-    arrives_next : (m i k b k' : ℕ) (l : List ℕ) (left : ℕ → ℕ) → WalkStep n w C j i b k k' → Arrives n w C j m b k' (b ∷ l) left → Arrives n w C j (suc m) i k (i ∷ b ∷ l) (onto k left)
+    arrives_next : (m i k b k' : ℕ) (l : List ℕ) (left : ℕ → ℕ) → WalkStep i b k k' → Arrives m b k' (b ∷ l) left → Arrives (suc m) i k (i ∷ b ∷ l) (onto k left)
     arrives_next m i k b k' l left t r = record {
       some = omega arith;
       short = omega (arith, r.short);
@@ -49,7 +69,7 @@ module _ (n : ℕ) (w C : ℕ → ℕ → ℕ) (j : ℕ) where
       to = to;
     }
       where
-        steps : (x : ℕ) → suc x < length (i ∷ b ∷ l) → WalkStep n w C j (get_or (i ∷ b ∷ l) x 0) (get_or (b ∷ l) x 0) (onto k left x) (left x)
+        steps : (x : ℕ) → suc x < length (i ∷ b ∷ l) → WalkStep (get_or (i ∷ b ∷ l) x 0) (get_or (b ∷ l) x 0) (onto k left x) (left x)
         steps zero h = rw r.whole t
         steps (suc x) h = r.steps x (omega arith)
 
@@ -57,7 +77,7 @@ module _ (n : ℕ) (w C : ℕ → ℕ → ℕ) (j : ℕ) where
         to zero h = absurd (omega arith)
         to (suc x) h = r.to x (omega arith)
 
-    step_of : (i k b k' : ℕ) → ¬ (i ≡ j) → tried w C j i k n ≡ goes b k' → WalkStep n w C j i b k k'
+    step_of : (i k b k' : ℕ) → ¬ (i ≡ j) → tried w C j i k n ≡ goes b k' → WalkStep i b k k'
     unfolding passed
     step_of i k b k' away t =
         let f = tried_of n w C j one i k b k' t in
@@ -92,7 +112,7 @@ module _ (n : ℕ) (w C : ℕ → ℕ → ℕ) (j : ℕ) where
 
     -- ---- and no other vertices do
 
-    arrives_walked : (m i k : ℕ) (p : List ℕ) (left : ℕ → ℕ) → Arrives n w C j m i k p left → walked w C j n m i k ≡ p
+    arrives_walked : (m i k : ℕ) (p : List ℕ) (left : ℕ → ℕ) → Arrives m i k p left → walked w C j n m i k ≡ p
     unfolding headed passed
     arrives_walked m i k [] left r = absurd (omega (arith, r.some))
     arrives_walked zero i k (a ∷ l) left r = absurd (omega (arith, r.short))
@@ -101,7 +121,7 @@ module _ (n : ℕ) (w C : ℕ → ℕ → ℕ) (j : ℕ) where
         rw (← r.from, ← r.whole) (walked_here n w C j m a (left 0) e.0 e.1)
     arrives_walked (suc m) i k (a ∷ b ∷ l) left r =
         let t = r.steps 0 (omega arith) in
-        let rest : Arrives n w C j m b (left 1) (b ∷ l) (λ x. left (suc x))
+        let rest : Arrives m b (left 1) (b ∷ l) (λ x. left (suc x))
         = record {
           some = omega arith;
           short = omega (arith, r.short);
@@ -115,7 +135,7 @@ module _ (n : ℕ) (w C : ℕ → ℕ → ℕ) (j : ℕ) where
         ∙ ap (headed a) (arrives_walked m b (left 1) (b ∷ l) (λ x. left (suc x)) rest))
 
     -- the walk by a rank is p exactly if p has such places, whatever p of one vertex or more
-    pub walked_places : (m i k : ℕ) (p : List ℕ) → ((walked w C j n m i k ≡ p) × (0 < length p)) ↔ ((left : ℕ → ℕ) × Arrives n w C j m i k p left)
+    pub walked_places : (m i k : ℕ) (p : List ℕ) → ((walked w C j n m i k ≡ p) × (0 < length p)) ↔ ((left : ℕ → ℕ) × Arrives m i k p left)
     walked_places m i k p = (
       λ e. elim (walked_found m i k) [
         | inl z ↦ absurd (omega (arith, e.1, ap length (sym e.0 ∙ z)))

@@ -12,12 +12,11 @@ use Rattle.sheet_theory.specs.Lent.{Lent}
 use Rattle.sheet_theory.specs.Conditions.{sized}
 use Rattle.sheet_theory.specs.Valid.{Valid}
 use Rattle.sheet_theory.proofs.InWords.{sized_words}
-use Rattle.query_theory.specs.Walk.{walked}
 use Rattle.query_theory.specs.ReachesWithout.{reaches_without_answer}
 use Rattle.query_theory.specs.Unrank.{unrank_answer, unrank_after}
 use Rattle.query_theory.specs.Rank.{rank_answer}
-use Rattle.query_theory.proofs.InWords.{reaches_without_words, reaches_without_valid_words, unrank_words, unrank_leaves_words, unrank_valid_words, rank_words, rank_valid_words}
-use Rattle.starred.specs.EveryCall.{edge, count, every, Answers, Leaves, Tells, Ranked, Rest}
+use Rattle.query_theory.proofs.InWords.{reaches_without_words, reaches_without_valid_words, unrank_words, unrank_valid_words, rank_words, rank_valid_words}
+use Rattle.starred.specs.EveryCall.{edge, count, every, Answers, Tells, Ranked, IsWalk, Rest}
 
 module _ (n : ℕ) (s : Lent) where
   -- an answer by its four parts, with 1 and 2 before the conditions l
@@ -39,17 +38,18 @@ module _ (n : ℕ) (s : Lent) where
   pub unrank_field : (i j k : ℕ) (before : List ℕ) →
       let r = unrank_answer n s i j k (length before) in
       let after = unrank_after n s i j k before in
-      let p = walked (edge s) (count n s) j n n i k in
-      Answers (every n s (((n ≤ i) ⊎ (n ≤ j)) gives 3 ∷ (length before < n) gives 10 ∷ (count n s i j ≤ k) gives 11 ∷ (p ≡ []) gives 9 ∷ [])) r
-      (r.value ≡ length p)
-      × Leaves r before after (Rest (length p) before after × ((x : ℕ) → x < length p → get_or after x 0 ≡ get_or p x 0))
-      × (Valid n s → (¬ (r.number ≡ 9)) × (r.number ≡ 0 → Ranked n s i j k p))
+      let Walk = IsWalk n s i j k in
+      Answers (every n s (((n ≤ i) ⊎ (n ≤ j)) gives 3 ∷ (length before < n) gives 10 ∷ (count n s i j ≤ k) gives 11
+      ∷ (¬ ((p : List ℕ) × Walk p)) gives 9 ∷ [])) r
+      ((p : List ℕ) × Walk p × (r.value ≡ length p) × (Valid n s → Ranked n s i j k p)
+      × Rest (length p) before after × ((x : ℕ) → x < length p → get_or after x 0 ≡ get_or p x 0))
+      × (¬ (r.number ≡ 0) → after ≡ before) × (Valid n s → ¬ (r.number ≡ 9))
   unrank_field i j k before =
       let w = unrank_words n s i j k before in
-      let t = unrank_leaves_words n s i j k before in (
-        answers_of w.0 w.1 w.2 w.3,
-        (λ z. let q = t.0 z in ((q.0, q.1), q.2), t.1),
-        unrank_valid_words n s i j k before,
+      let valid = unrank_valid_words n s i j k before in (
+        answers_of w.0 w.1 (λ z. let q = w.2 z in (q.0, q.1, q.2, λ v. (valid v).1 z q.0 q.1, (q.3, q.4), q.5)) (λ d. (w.3 d).0),
+        λ d. (w.3 d).1,
+        λ v. (valid v).0,
       )
 
   pub rank_field : (p : List ℕ) →

@@ -19,7 +19,6 @@ use Rattle.sheet_theory.specs.Calls.{empty_answer, empty_after, path_count_answe
 use Rattle.recount_theory.specs.Calls.{Recount, Validate}
 use Rattle.edit_theory.specs.Edit.{insert_edge, delete_edge, insert_edges_at, delete_edges_at}
 use Rattle.edit_theory.specs.Outcome.{edit_answer, edit_after}
-use Rattle.query_theory.specs.Walk.{walked}
 use Rattle.query_theory.specs.ReachesWithout.{reaches_without_answer}
 use Rattle.query_theory.specs.Unrank.{unrank_answer, unrank_after}
 use Rattle.query_theory.specs.Rank.{rank_answer}
@@ -80,9 +79,7 @@ module _ (n : ℕ) (s : Lent) (v A B : ℕ) where
 
   -- a cycle by the counts: count(v, a) isn't zero for some a in A, or count(b, v) for some b in B, or count(b, a) for some pair of them
   abbrev pub CycleByCounts : Type 0
-  CycleByCounts =
-      ((a : ℕ) × (a < n) × (bit A a ≡ 1) × (¬ (count n s v a ≡ 0)))
-      ⊎ ((b : ℕ) × (b < n) × (bit B b ≡ 1) × (¬ (count n s b v ≡ 0)))
+  CycleByCounts = ((a : ℕ) × (a < n) × (bit A a ≡ 1) × (¬ (count n s v a ≡ 0))) ⊎ ((b : ℕ) × (b < n) × (bit B b ≡ 1) × (¬ (count n s b v ≡ 0)))
       ⊎ ((a : ℕ) × (b : ℕ) × (a < n) × (b < n) × (bit A a ≡ 1) × (bit B b ≡ 1) × (¬ (count n s b a ≡ 0)))
 
   -- an accepted edit leaves t: the bits of its edges are x, the others as they were; `counted` is said of each count; t is valid if s is
@@ -102,14 +99,12 @@ module _ (n : ℕ) (s : Lent) (v A B : ℕ) where
   pub record Insertion (first : Conditions → Conditions) (r : Answer) (t : Lent) : Type 0 where
     pub answers : Answers (laying first CycleByCounts) r (r.value ≡ ones n t)
     pub valid : Valid n s → First (laying first (Cycle n (λ i j. edge s i j + bit A i * delta j v + delta i v * bit B j))) r.number
-    pub leaves : Leaves r s t (Edited t 1 (λ i j.
-        count n t i j ≡ (count n s i j + (count n s i v * T j + F i * count n s v j + F i * T j)) % 2 ^ 64))
+    pub leaves : Leaves r s t (Edited t 1 (λ i j. count n t i j ≡ (count n s i j + (count n s i v * T j + F i * count n s v j + F i * T j)) % 2 ^ 64))
 
   -- deletion. 7: not there. What document 01 subtracts is here added to the count afterwards; only one number below 2^64 satisfies this.
   pub record Deletion (first : Conditions → Conditions) (r : Answer) (t : Lent) : Type 0 where
     pub answers : Answers (first (SomeNamed (λ i j. edge s i j ≡ 0) gives 7 ∷ [])) r (r.value ≡ ones n t)
-    pub leaves : Leaves r s t (Edited t 0 (λ i j.
-        (count n t i j < 2 ^ 64)
+    pub leaves : Leaves r s t (Edited t 0 (λ i j. (count n t i j < 2 ^ 64)
         × ((count n t i j + (count n s i v * T j + F i * count n s v j)) % 2 ^ 64 ≡ (count n s i j + F i * T j) % 2 ^ 64)))
 
 -- what is looked for before 5 or 7, of one edge and of masks. 3: a vertex is n or more. 4: a mask has a bit at n or above.
@@ -124,14 +119,22 @@ abbrev pub Ranked : ℕ → Lent → ℕ → ℕ → ℕ → List ℕ → Type 0
 Ranked n s i j k p = IsPath n (edge s) i j p × Exactly (λ l. IsPath n (edge s) i j l
     × ((x : ℕ) × (x < length l) × (x < length p) × ((y : ℕ) → y < x → get_or l y 0 ≡ get_or p y 0) × (get_or l x 0 < get_or p x 0))) k
 
+-- p is the walk from i to j by the rank k, over at most n vertices, where `left x` is left of k at the place x: from each vertex but j the
+-- counts of the edges to lower vertices than the next are taken off, and what is left is below the count of the next; at j nothing is left
+abbrev pub IsWalk : ℕ → Lent → ℕ → ℕ → ℕ → List ℕ → Type 0
+IsWalk n s i j k p =
+    let at : ℕ → ℕ = λ x. get_or p x 0 in let last : ℕ = length p - 1 in
+    (left : ℕ → ℕ) × (0 < length p) × (length p ≤ n) × (at 0 ≡ i) × (left 0 ≡ k) × (at last ≡ j) × (left last ≡ 0)
+    × ((x : ℕ) → x < last → (¬ (at x ≡ j)) × (at (suc x) < n) × (edge s (at x) (at (suc x)) ≡ 1) × (left (suc x) < count n s (at (suc x)) j)
+    × (left x ≡ sum (at (suc x)) (λ b. edge s (at x) b * count n s b j) + left (suc x)))
+
 -- from the place m on, the buffer after is as before
 abbrev pub Rest : ℕ → List ℕ → List ℕ → Type 0
 Rest m before after = (length after ≡ length before) × ((x : ℕ) → m ≤ x → get_or after x 0 ≡ get_or before x 0)
 
 -- the 8 bytes from 8 × m on are the record of a letter, u and v: the letter, a space, two digits, a space, two digits, a line feed
 abbrev pub Form : List ℕ → ℕ → ℕ → ℕ → ℕ → Type 0
-Form bytes m letter u v =
-    (u < 100) × (v < 100)
+Form bytes m letter u v = (u < 100) × (v < 100)
     × (take 8 (drop (8 * m) bytes) ≡ letter ∷ 32 ∷ (48 + u / 10) ∷ (48 + u % 10) ∷ 32 ∷ (48 + v / 10) ∷ (48 + v % 10) ∷ 10 ∷ [])
 
 -- the record m of a plan, from 0 up, has on s the number k and leaves t: L (76) inserts an edge, T (84) deletes one, and any other is 14
@@ -173,21 +176,20 @@ pub record EveryCall (n : ℕ) (s : Lent) : Type 0 where
   pub insert_at : (v A B : ℕ) → let e = insert_edges_at n v A B in Insertion n s v A B (masks n s v A B) (edit_answer e s) (edit_after e s)
   pub delete_at : (v A B : ℕ) → let e = delete_edges_at n v A B in Deletion n s v A B (masks n s v A B) (edit_answer e s) (edit_after e s)
   -- a count is the word, on any sheet
-  pub path_count : (i j : ℕ) → let r = path_count_answer n s i j in
-      Answers (every n s (((n ≤ i) ⊎ (n ≤ j)) gives 3 ∷ [])) r (r.value ≡ count n s i j)
+  pub path_count : (i j : ℕ) → let r = path_count_answer n s i j in Answers (every n s (((n ≤ i) ⊎ (n ≤ j)) gives 3 ∷ [])) r (r.value ≡ count n s i j)
   -- supply without an edge, by ≠; on a valid sheet, whether there is a path over the other edges. 7: the edge is not there.
   pub reaches_without : (i j u v : ℕ) → let r = reaches_without_answer n s i j u v in
       Answers (every n s (((n ≤ i) ⊎ (n ≤ j) ⊎ (n ≤ u) ⊎ (n ≤ v)) gives 3 ∷ (edge s u v ≡ 0) gives 7 ∷ [])) r
       (Tells r (¬ (count n s i u * count n s v j % 2 ^ 64 ≡ count n s i j)))
       × (Valid n s → r.number ≡ 0 → Tells r ((l : List ℕ) × IsPath n (λ a b. edge s a b - delta a u * delta b v) i j l))
-  -- the path of rank k, walked over at most n vertices. 10: under n bytes. 11: k is not below the count. 9: the walk does not arrive.
+  -- the path of rank k, by the walk. 10: under n bytes. 11: k is not below the count. 9: there is no such walk.
   pub unrank : (i j k : ℕ) (before : List ℕ) →
-      let r = unrank_answer n s i j k (length before) in let after = unrank_after n s i j k before in
-      let p = walked (edge s) (count n s) j n n i k in
-      Answers (every n s (((n ≤ i) ⊎ (n ≤ j)) gives 3 ∷ (length before < n) gives 10 ∷ (count n s i j ≤ k) gives 11 ∷ (p ≡ []) gives 9 ∷ [])) r
-      (r.value ≡ length p)
-      × Leaves r before after (Rest (length p) before after × ((x : ℕ) → x < length p → get_or after x 0 ≡ get_or p x 0))
-      × (Valid n s → (¬ (r.number ≡ 9)) × (r.number ≡ 0 → Ranked n s i j k p))
+      let r = unrank_answer n s i j k (length before) in let after = unrank_after n s i j k before in let Walk = IsWalk n s i j k in
+      Answers (every n s (((n ≤ i) ⊎ (n ≤ j)) gives 3 ∷ (length before < n) gives 10 ∷ (count n s i j ≤ k) gives 11
+      ∷ (¬ ((p : List ℕ) × Walk p)) gives 9 ∷ [])) r
+      ((p : List ℕ) × Walk p × (r.value ≡ length p) × (Valid n s → Ranked n s i j k p)
+      × Rest (length p) before after × ((x : ℕ) → x < length p → get_or after x 0 ≡ get_or p x 0))
+      × (¬ (r.number ≡ 0) → after ≡ before) × (Valid n s → ¬ (r.number ≡ 9))
   -- the rank of a path. 3: a vertex of the path is n or more. 12: no vertices, more than n, or two neighbours without an edge. The value is
   -- the sum, modulo 2 to the 64, of the counts to its end that are passed over; on a valid sheet it is the rank.
   pub rank : (p : List ℕ) → let r = rank_answer n s p in
