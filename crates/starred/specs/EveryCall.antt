@@ -120,10 +120,9 @@ Ranked n s i j k p = IsPath n (edge s) i j p × Exactly (λ l. IsPath n (edge s)
     × ((x : ℕ) × (x < length l) × (x < length p) × ((y : ℕ) → y < x → get_or l y 0 ≡ get_or p y 0) × (get_or l x 0 < get_or p x 0))) k
 
 -- p is the walk from i to j by the rank k, over at most n vertices, where `left x` is left of k at the place x: from each vertex but j the
--- counts of the edges to lower vertices than the next are taken off, and what is left is below the count of the next; at j nothing is left
+-- counts from the neighbours below the next vertex are taken off, and what is left is below the count from the next; at j nothing is left
 abbrev pub IsWalk : ℕ → Lent → ℕ → ℕ → ℕ → List ℕ → Type 0
-IsWalk n s i j k p =
-    let at : ℕ → ℕ = λ x. get_or p x 0 in let last : ℕ = length p - 1 in
+IsWalk n s i j k p = let at : ℕ → ℕ = λ x. get_or p x 0 in let last : ℕ = length p - 1 in
     (left : ℕ → ℕ) × (0 < length p) × (length p ≤ n) × (at 0 ≡ i) × (left 0 ≡ k) × (at last ≡ j) × (left last ≡ 0)
     × ((x : ℕ) → x < last → (¬ (at x ≡ j)) × (at (suc x) < n) × (edge s (at x) (at (suc x)) ≡ 1) × (left (suc x) < count n s (at (suc x)) j)
     × (left x ≡ sum (at (suc x)) (λ b. edge s (at x) b * count n s b j) + left (suc x)))
