@@ -3,3 +3,4 @@ pub mod SliceLaws
 pub mod EmptyLaws
 pub mod StrayLaws
 pub mod WordsLaws
+pub mod Constants

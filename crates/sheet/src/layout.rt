@@ -1,7 +1,6 @@
 // The layout of a sheet: where each row and each count is stored; and the sheet's own type.
 ghost use Rattle.std.specs.Prelude.{◌≡◌, ◌≤◌, ◌<◌};
 ghost use Rattle.sheet_theory.specs.Layout.{most_vertices, counts_end, size, Shape, count_at, empty_sheet};
-ghost use Rattle.sheet_theory.specs.Valid.{most_edges};
 ghost use Rattle.sheet.specs.Internal.{Place, CountsFrom};
 
 use crate::fill;
@@ -27,13 +26,6 @@ impl Sheet {
         let mut words = [0u64; Sheet::WORDS];
         fill::fill_empty(Sheet::VERTICES, &mut words);
         Sheet { words }
-    }
-
-    // The most edges that a valid sheet has.
-    pub fn most_edges() -> usize
-        ensures edges { result ≡ most_edges }
-    {
-        Sheet::EDGES
     }
 }
 

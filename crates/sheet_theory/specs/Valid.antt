@@ -13,10 +13,6 @@ pub record Valid (n : ℕ) (s : Lent) : Type 0 where
   pub acyclic : Acyclic n (edge_at s.words)
   pub counts : (i j : ℕ) → i < n → j < n → PathsExactly n (edge_at s.words) i j (count_at n s.words i j)
 
--- the most edges that a valid sheet has
-abbrev pub most_edges : ℕ
-most_edges = 2016
-
 -- 9: the sheet is not valid; and then the conditions l
 abbrev pub not_valid : ℕ → Lent → Conditions → Conditions
 not_valid n s l = (¬ (Valid n s)) gives 9 ∷ l

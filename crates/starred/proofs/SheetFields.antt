@@ -12,7 +12,7 @@ use Rattle.graph.proofs.Bound.{bound_self, bound, paths_below}
 use Rattle.answer.specs.declared.Answer.{Answer}
 use Rattle.answer.specs.Table.{◌gives◌}
 use Rattle.sheet_theory.specs.Lent.{Lent}
-use Rattle.sheet_theory.specs.Valid.{Valid, most_edges}
+use Rattle.sheet_theory.specs.Valid.{Valid}
 use Rattle.sheet_theory.specs.Calls.{empty_answer, empty_after, path_count_answer}
 use Rattle.sheet_theory.proofs.Refusals.{empty_refused, path_count_refused}
 use Rattle.sheet_theory.proofs.LayoutLaws.{size_le, greatest}
@@ -69,10 +69,8 @@ module _ (n : ℕ) (s : Lent) where
     refused = λ d. value _ _ (validate_refused n s r h d);
   }
 
-  pub sizes_field : (most_edges ≡ 2016) × (Valid n s → (length s.words ≤ 4160) × (ones n s ≤ 2016))
-      × ((t : Lent) × Valid 64 t × (length t.words ≡ 4160) × (ones 64 t ≡ 2016))
+  pub sizes_field : (Valid n s → (length s.words ≤ 4160) × (ones n s ≤ 2016)) × ((t : Lent) × Valid 64 t × (length t.words ≡ 4160) × (ones 64 t ≡ 2016))
   sizes_field = (
-    refl,
     λ v. (omega (arith, v.shape.long, size_le n v.shape.high, greatest), omega (arith, set_bits_words n s, valid_edges_le n s v)),
     let x = most_edges_reached in (x.0, x.1, x.1.shape.long ∙ greatest, sym (set_bits_words 64 x.0) ∙ x.2),
   )

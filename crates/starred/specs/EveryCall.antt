@@ -14,7 +14,7 @@ use Rattle.answer.specs.declared.Answer.{Answer}
 use Rattle.answer.specs.Table.{◌gives◌, Conditions, First}
 use Rattle.sheet_theory.specs.Layout.{most_vertices, empty_sheet}
 use Rattle.sheet_theory.specs.Lent.{Lent, lent}
-use Rattle.sheet_theory.specs.Valid.{Valid, most_edges}
+use Rattle.sheet_theory.specs.Valid.{Valid}
 use Rattle.sheet_theory.specs.Calls.{empty_answer, empty_after, path_count_answer}
 use Rattle.recount_theory.specs.Calls.{Recount, Validate}
 use Rattle.edit_theory.specs.Edit.{insert_edge, delete_edge, insert_edges_at, delete_edges_at}
@@ -211,10 +211,9 @@ pub record EveryCall (n : ℕ) (s : Lent) : Type 0 where
       Answers (every n s ((¬ (Valid n s)) gives 9 ∷ (length before < 8 * ones n s) gives 10 ∷ [])) r (r.value ≡ 8 * ones n s)
       × Leaves r before after (Rest (8 * ones n s) before after
       × ((i j : ℕ) → i < n → j < n → edge s i j ≡ 1 → Form after (sum i (λ a. sum 64 (edge s a)) + sum j (edge s i)) 76 i j))
-  -- the constants and the maker of the sheet's type: 64 vertices, the empty sheet of so many, and the greatest sizes
+  -- the maker of the sheet's type, the empty sheet of 64 vertices; and the greatest sizes, 64 vertices, 4,160 words and 2,016 edges
   pub maker : (most_vertices ≡ 64) × Valid 64 (lent (empty_sheet most_vertices)) × ((i : ℕ) → i < 64 → row (lent (empty_sheet most_vertices)) i ≡ 0)
-  pub sizes : (most_edges ≡ 2016) × (Valid n s → (length s.words ≤ 4160) × (ones n s ≤ 2016))
-      × ((t : Lent) × Valid 64 t × (length t.words ≡ 4160) × (ones 64 t ≡ 2016))
+  pub sizes : (Valid n s → (length s.words ≤ 4160) × (ones n s ≤ 2016)) × ((t : Lent) × Valid 64 t × (length t.words ≡ 4160) × (ones 64 t ≡ 2016))
   -- without a cycle, a number of paths fits a word with at most 64 vertices, and is at most 2 to the power n - 2 for n of 2 or more
   pub bound : (w : ℕ → ℕ → ℕ) → ¬ (Cycle n w) → (i j k : ℕ) → i < n → j < n → Exactly (IsPath n w i j) k
       → (n ≤ 64 → k < 2 ^ 64) × (2 ≤ n → k ≤ 2 ^ (n - 2))
