@@ -4,4 +4,9 @@ pub mod SheetFields
 pub mod EditFields
 pub mod QueryFields
 pub mod PlanFields
+pub mod AnswersOnly
+pub mod SheetOnly
+pub mod EditOnly
+pub mod QueryOnly
+pub mod PlanOnly
 pub mod EveryCall
