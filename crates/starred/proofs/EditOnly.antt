@@ -53,14 +53,14 @@ module _ (n : ℕ) (s : Lent) where
       → (r ≡ edit_answer (insert_edge n u v) s) × (t ≡ edit_after (insert_edge n u v) s)
   insert_page_only u v r t p = insertion_only n s u 0 (2 ^ v) _ r _ t _ p (insert_field n s u v)
 
-  pub delete_only : (u v : ℕ) (r : Answer) (t : Lent) → Deletion n s u 0 (2 ^ v) (one n s u v) r t
+  pub delete_page_only : (u v : ℕ) (r : Answer) (t : Lent) → Deletion n s u 0 (2 ^ v) (one n s u v) r t
       → (r ≡ edit_answer (delete_edge n u v) s) × (t ≡ edit_after (delete_edge n u v) s)
-  delete_only u v r t p = deletion_only n s u 0 (2 ^ v) _ r _ t _ p (delete_field n s u v)
+  delete_page_only u v r t p = deletion_only n s u 0 (2 ^ v) _ r _ t _ p (delete_field n s u v)
 
-  pub insert_at_only : (v A B : ℕ) (r : Answer) (t : Lent) → Insertion n s v A B (masks n s v A B) r t
+  pub insert_at_page_only : (v A B : ℕ) (r : Answer) (t : Lent) → Insertion n s v A B (masks n s v A B) r t
       → (r ≡ edit_answer (insert_edges_at n v A B) s) × (t ≡ edit_after (insert_edges_at n v A B) s)
-  insert_at_only v A B r t p = insertion_only n s v A B _ r _ t _ p (insert_at_field n s v A B)
+  insert_at_page_only v A B r t p = insertion_only n s v A B _ r _ t _ p (insert_at_field n s v A B)
 
-  pub delete_at_only : (v A B : ℕ) (r : Answer) (t : Lent) → Deletion n s v A B (masks n s v A B) r t
+  pub delete_at_page_only : (v A B : ℕ) (r : Answer) (t : Lent) → Deletion n s v A B (masks n s v A B) r t
       → (r ≡ edit_answer (delete_edges_at n v A B) s) × (t ≡ edit_after (delete_edges_at n v A B) s)
-  delete_at_only v A B r t p = deletion_only n s v A B _ r _ t _ p (delete_at_field n s v A B)
+  delete_at_page_only v A B r t p = deletion_only n s v A B _ r _ t _ p (delete_at_field n s v A B)

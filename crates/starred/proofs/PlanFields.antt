@@ -51,10 +51,14 @@ module _ (n : ℕ) (s : Lent) where
 
   -- ---- a plan written
 
-  pub write_plan_field : (before : List ℕ) (r : Answer) (after : List ℕ) → WritePlan n s before r after →
+  -- the page's line of `write_plan`, said of any answer and of any bytes that are left
+  abbrev pub SaidOfWritePlan : List ℕ → Answer → List ℕ → Type 0
+  SaidOfWritePlan before r after =
       Answers (every n s ((¬ (Valid n s)) gives 9 ∷ (length before < 8 * ones n s) gives 10 ∷ [])) r (r.value ≡ 8 * ones n s)
       × Leaves r before after (Rest (8 * ones n s) before after
       × ((i j : ℕ) → i < n → j < n → edge s i j ≡ 1 → Form after (sum i (λ a. sum 64 (edge s a)) + sum j (edge s i)) 76 i j))
+
+  pub write_plan_field : (before : List ℕ) (r : Answer) (after : List ℕ) → WritePlan n s before r after → SaidOfWritePlan before r after
   write_plan_field before r after h = (
     record {
       number = valid_first_words n s ((length before < 8 * ones n s) gives 10 ∷ []) r.number (write_words n s before r after h);

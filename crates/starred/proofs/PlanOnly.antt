@@ -17,10 +17,10 @@ use Rattle.sheet_theory.specs.Lent.{Lent}
 use Rattle.sheet_theory.specs.Valid.{Valid}
 use Rattle.sheet_theory.proofs.ValidLaws.{edge_le, accepted_valid}
 use Rattle.plan_theory.specs.Calls.{ReadPlan, ShortBuffer, WritePlan}
-use Rattle.starred.specs.EveryCall.{edge, ones, every, Answers, Leaves, Rest, Form, RecordsTaken, PlanRead, RecordGives, before_records}
+use Rattle.starred.specs.EveryCall.{edge, ones, Form, RecordsTaken, PlanRead, RecordGives, before_records}
 use Rattle.starred.specs.EveryCall.RecordGives.{inserts, deletes, malformed}
 use Rattle.starred.specs.EveryCall.PlanRead.{early, taken, stopped}
-use Rattle.starred.proofs.PlanFields.{read_plan_field, write_plan_field}
+use Rattle.starred.proofs.PlanFields.{SaidOfWritePlan, read_plan_field, write_plan_field}
 use Rattle.starred.proofs.AnswersOnly.{numbers_only, calls_only}
 
 -- ---- a plan read
@@ -91,8 +91,8 @@ module _ (n : ℕ) (s : Lent) (plan : List ℕ) where
           ]
         ]
 
-    pub read_plan_only : PlanRead n s plan r t → ReadPlan n s plan w u → (r ≡ w) × (t ≡ u)
-    read_plan_only a h = plans_only a (read_plan_field n s plan w u h)
+    pub read_plan_page_only : PlanRead n s plan r t → ReadPlan n s plan w u → (r ≡ w) × (t ≡ u)
+    read_plan_page_only a h = plans_only a (read_plan_field n s plan w u h)
 
 -- ---- a plan written
 
@@ -138,17 +138,10 @@ module _ (n : ℕ) (s : Lent) where
       let number : sum i (λ a. sum 64 (edge s a)) + sum j (edge s i) ≡ k = omega (arith, p.2, p.3, q.2, q.3, edge_le s.words i j) in
       subst P number (holds i j p.1 hj e)
 
-  -- the page's line of `write_plan`, said of any answer and of any bytes that are left
-  abbrev SaidOfWritePlan : List ℕ → Answer → List ℕ → Type 0
-  SaidOfWritePlan before r after =
-      Answers (every n s ((¬ (Valid n s)) gives 9 ∷ (length before < 8 * ones n s) gives 10 ∷ [])) r (r.value ≡ 8 * ones n s)
-      × Leaves r before after (Rest (8 * ones n s) before after
-      × ((i j : ℕ) → i < n → j < n → edge s i j ≡ 1 → Form after (sum i (λ a. sum 64 (edge s a)) + sum j (edge s i)) 76 i j))
-
-  pub write_plan_only : (before : List ℕ) (r w : Answer) (after other : List ℕ) → SaidOfWritePlan before r after → WritePlan n s before w other
+  pub write_plan_page_only : (before : List ℕ) (r w : Answer) (after other : List ℕ) → SaidOfWritePlan n s before r after → WritePlan n s before w other
       → (r ≡ w) × (after ≡ other)
-  write_plan_only before r w after other a h =
-      let b : SaidOfWritePlan before w other = write_plan_field n s before w other h in
+  write_plan_page_only before r w after other a h =
+      let b = write_plan_field n s before w other h in
       let short : Conditions = ShortBuffer n s (length before) gives 10 ∷ [] in
       calls_only a.0 a.1 b.0 b.1
       (λ z x y.

@@ -1,25 +1,20 @@
 -- The page of every call leaves nothing open of the questions: whatever answer and bytes meet what it says of supply without an edge, of the
 -- path of a rank or of the rank of a path are those of the call's contract. Assumes nothing.
 use mathlib.Core.Path.{◌≡◌, sym, ap, ◌∙◌}
-use mathlib.Core.Logic.{◌⊎◌}
-use mathlib.Core.List.{List, [], ◌∷◌}
-use Prim.Native.Nat.{ℕ, suc, ◌-◌, ◌*◌, ◌%◌, ◌^◌, ◌≤◌, ◌<◌}
+use mathlib.Core.List.{List}
+use Prim.Native.Nat.{ℕ, ◌<◌}
 use native.Mathlib.Decide.{dec_lt}
 use native.Mathlib.Omega.{arith}
 use lib.ListN.{length, get_or}
 use lib.Seq.{ext_get_or}
-use Rattle.sums.specs.Sum.{sum, delta}
-use Rattle.graph.specs.Graph.{IsPath}
 use Rattle.answer.specs.declared.Answer.{Answer}
-use Rattle.answer.specs.Table.{◌gives◌}
 use Rattle.sheet_theory.specs.Lent.{Lent}
-use Rattle.sheet_theory.specs.Valid.{Valid}
 use Rattle.query_theory.specs.ReachesWithout.{reaches_without_answer}
 use Rattle.query_theory.specs.Unrank.{unrank_answer, unrank_after}
 use Rattle.query_theory.specs.Rank.{rank_answer}
 use Rattle.query_theory.proofs.InWords.{walked_words}
-use Rattle.starred.specs.EveryCall.{edge, count, every, Answers, Tells, Ranked, IsWalk, Rest}
-use Rattle.starred.proofs.QueryFields.{reaches_without_field, unrank_field, rank_field}
+use Rattle.starred.specs.EveryCall.{IsWalk, Rest}
+use Rattle.starred.proofs.QueryFields.{SaidOfReachesWithout, SaidOfUnrank, SaidOfRank, reaches_without_field, unrank_field, rank_field}
 use Rattle.starred.proofs.AnswersOnly.{answers_only, tells_only, calls_only}
 
 -- bytes that begin with the vertices of p, and from there on are as before, are known
@@ -29,21 +24,13 @@ bytes_after_only p before after other a x b y =
     ext_get_or 0 after other (a.0 ∙ sym b.0) (λ z h.
     elim (dec_lt z (length p)) [ yes l ↦ x z l ∙ sym (y z l) | no l ↦ a.1 z (omega (arith, l)) ∙ sym (b.1 z (omega (arith, l))) ])
 
--- each `SaidOf` is the page's line of a call, said of any answer, and of any bytes that are left
 module _ (n : ℕ) (s : Lent) where
   -- ---- supply without an edge
 
-  abbrev SaidOfReachesWithout : ℕ → ℕ → ℕ → ℕ → Answer → Type 0
-  SaidOfReachesWithout i j u v r =
-      Answers (every n s (((n ≤ i) ⊎ (n ≤ j) ⊎ (n ≤ u) ⊎ (n ≤ v)) gives 3 ∷ (edge s u v ≡ 0) gives 7 ∷ [])) r
-      (Tells r (¬ (count n s i u * count n s v j % 2 ^ 64 ≡ count n s i j)))
-      × (Valid n s → r.number ≡ 0 → Tells r ((l : List ℕ) × IsPath n (λ a b. edge s a b - delta a u * delta b v) i j l))
-
-  pub reaches_without_only : (i j u v : ℕ) (r : Answer) → SaidOfReachesWithout i j u v r → r ≡ reaches_without_answer n s i j u v
-  reaches_without_only i j u v r a =
+  pub reaches_without_page_only : (i j u v : ℕ) (r : Answer) → SaidOfReachesWithout n s i j u v r → r ≡ reaches_without_answer n s i j u v
+  reaches_without_page_only i j u v r a =
       let w = reaches_without_answer n s i j u v in
-      let b : SaidOfReachesWithout i j u v w = reaches_without_field n s i j u v in
-      answers_only a.0 b.0 (tells_only r w _)
+      answers_only a.0 (reaches_without_field n s i j u v).0 (tells_only r w _)
 
   -- ---- the path of a rank
 
@@ -51,34 +38,16 @@ module _ (n : ℕ) (s : Lent) where
   walks_only : (i j k : ℕ) (p q : List ℕ) → IsWalk n s i j k p → IsWalk n s i j k q → p ≡ q
   walks_only i j k p q a b = sym ((walked_words n s i j k p).1 a).0 ∙ ((walked_words n s i j k q).1 b).0
 
-  abbrev SaidOfUnrank : ℕ → ℕ → ℕ → List ℕ → Answer → List ℕ → Type 0
-  SaidOfUnrank i j k before r after =
-      let Walk = IsWalk n s i j k in
-      Answers (every n s (((n ≤ i) ⊎ (n ≤ j)) gives 3 ∷ (length before < n) gives 10 ∷ (count n s i j ≤ k) gives 11
-      ∷ (¬ ((p : List ℕ) × Walk p)) gives 9 ∷ [])) r
-      ((p : List ℕ) × Walk p × (r.value ≡ length p) × (Valid n s → Ranked n s i j k p)
-      × Rest (length p) before after × ((x : ℕ) → x < length p → get_or after x 0 ≡ get_or p x 0))
-      × (¬ (r.number ≡ 0) → after ≡ before) × (Valid n s → ¬ (r.number ≡ 9))
-
-  pub unrank_only : (i j k : ℕ) (before : List ℕ) (r : Answer) (after : List ℕ) → SaidOfUnrank i j k before r after
+  pub unrank_page_only : (i j k : ℕ) (before : List ℕ) (r : Answer) (after : List ℕ) → SaidOfUnrank n s i j k before r after
       → (r ≡ unrank_answer n s i j k (length before)) × (after ≡ unrank_after n s i j k before)
-  unrank_only i j k before r after a =
+  unrank_page_only i j k before r after a =
       let other = unrank_after n s i j k before in
-      let b : SaidOfUnrank i j k before (unrank_answer n s i j k (length before)) other = unrank_field n s i j k before in
+      let b = unrank_field n s i j k before in
       calls_only a.0 (a.0.accepted, a.1) b.0 (b.0.accepted, b.1)
       (λ z x y. let e = walks_only i j k y.0 x.0 y.1 x.1 in bytes_after_only x.0 before after other x.4 x.5 (rw e at y.4) (rw e at y.5))
       (λ e x y. x.2 ∙ ap length (walks_only i j k x.0 y.0 x.1 y.1) ∙ sym y.2)
 
   -- ---- the rank of a path
 
-  abbrev SaidOfRank : List ℕ → Answer → Type 0
-  SaidOfRank p r =
-      let at : ℕ → ℕ = λ x. get_or p x 0 in
-      let end : ℕ = at (length p - 1) in
-      Answers (every n s (((x : ℕ) × (x < length p) × (n ≤ at x)) gives 3
-      ∷ ((length p ≡ 0) ⊎ (n < length p) ⊎ ((x : ℕ) × (suc x < length p) × (edge s (at x) (at (suc x)) ≡ 0))) gives 12 ∷ [])) r
-      (r.value ≡ sum (length p - 1) (λ x. sum (at (suc x)) (λ b. edge s (at x) b * count n s b end)) % 2 ^ 64)
-      × (Valid n s → r.number ≡ 0 → Ranked n s (at 0) end r.value p)
-
-  pub rank_only : (p : List ℕ) (r : Answer) → SaidOfRank p r → r ≡ rank_answer n s p
-  rank_only p r a = let b : SaidOfRank p (rank_answer n s p) = rank_field n s p in answers_only a.0 b.0 (λ x y. x ∙ sym y)
+  pub rank_page_only : (p : List ℕ) (r : Answer) → SaidOfRank n s p r → r ≡ rank_answer n s p
+  rank_page_only p r a = answers_only a.0 (rank_field n s p).0 (λ x y. x ∙ sym y)

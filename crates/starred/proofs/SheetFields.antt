@@ -27,19 +27,21 @@ use Rattle.starred.specs.EveryCall.{row, edge, count, ones, Answers, Leaves, Tel
 value : (r r' : Answer) → r ≡ r' → r.value ≡ r'.value
 value r r' e = ap (λ (x : Answer). x.value) e
 
+-- each `SaidOf` is the page's line of a call, said of any answer, and of any words that are left
 module _ (n : ℕ) (s : Lent) where
-  pub empty_field :
-      let r = empty_answer n s in
-      let t = empty_after n s in
-      Answers (every n s []) r (r.value ≡ 0) × Leaves r s t (Valid n t × ((i : ℕ) → i < n → row t i ≡ 0))
+  abbrev pub SaidOfEmpty : Answer → Lent → Type 0
+  SaidOfEmpty r t = Answers (every n s []) r (r.value ≡ 0) × Leaves r s t (Valid n t × ((i : ℕ) → i < n → row t i ≡ 0))
+
+  pub empty_field : SaidOfEmpty (empty_answer n s) (empty_after n s)
   empty_field = (
     record { number = empty_words n s; place = refl; accepted = λ z. (empty_leaves_words n s z).0; refused = λ d. value _ _ (empty_refused n s d).0 },
     (λ z. let w = empty_leaves_words n s z in (w.1, w.2), λ d. (empty_refused n s d).1),
   )
 
-  pub path_count_field : (i j : ℕ) →
-      let r = path_count_answer n s i j in
-      Answers (every n s (((n ≤ i) ⊎ (n ≤ j)) gives 3 ∷ [])) r (r.value ≡ count n s i j)
+  abbrev pub SaidOfPathCount : ℕ → ℕ → Answer → Type 0
+  SaidOfPathCount i j r = Answers (every n s (((n ≤ i) ⊎ (n ≤ j)) gives 3 ∷ [])) r (r.value ≡ count n s i j)
+
+  pub path_count_field : (i j : ℕ) → SaidOfPathCount i j (path_count_answer n s i j)
   path_count_field i j = record {
     number = path_count_words n s i j;
     place = refl;
@@ -47,10 +49,13 @@ module _ (n : ℕ) (s : Lent) where
     refused = λ d. value _ _ (path_count_refused n s i j d);
   }
 
-  pub recount_field : (r : Answer) (t : Lent) → Recount n s r t →
+  abbrev pub SaidOfRecount : Answer → Lent → Type 0
+  SaidOfRecount r t =
       Answers (every n s (((i : ℕ) × (i < n) × Stray n (row s i)) gives 4 ∷ Cycle n (edge s) gives 8 ∷ [])) r (r.value ≡ ones n s)
       × Leaves r s t ((length t.words ≡ length s.words) × ((i : ℕ) → i < n → row t i ≡ row s i)
       × ((i j : ℕ) → i < n → j < n → Exactly (IsPath n (edge s) i j) (count n t i j)))
+
+  pub recount_field : (r : Answer) (t : Lent) → Recount n s r t → SaidOfRecount r t
   recount_field r t h = (
     record {
       number = altering_words n s (((i : ℕ) × (i < n) × Stray n (row s i)) gives 4 ∷ Cycle n (edge s) gives 8 ∷ []) r.number (recount_words n s r t h);
@@ -61,7 +66,10 @@ module _ (n : ℕ) (s : Lent) where
     (recount_leaves_words n s r t h, λ d. (recount_refused n s r t h d).1),
   )
 
-  pub validate_field : (r : Answer) → Validate n s r → Answers (every n s []) r (Tells r (Valid n s))
+  abbrev pub SaidOfValidate : Answer → Type 0
+  SaidOfValidate r = Answers (every n s []) r (Tells r (Valid n s))
+
+  pub validate_field : (r : Answer) → Validate n s r → SaidOfValidate r
   validate_field r h = record {
     number = sized_words n s [] r.number (validate_words n s r h).0;
     place = h.place;
