@@ -1,19 +1,16 @@
--- The page of every call leaves nothing open of the four edits: whatever answer and words meet what it says of one of them are those of the
--- call's contract. Assumes nothing.
+-- What the page `EveryCall` says of an insertion or a deletion, only one answer and one sheet meet. Assumes nothing.
 use mathlib.Core.Path.{◌≡◌, refl, sym, ap, ◌∙◌}
 use mathlib.Core.Bool.{Bool, true, false}
-use Prim.Native.Nat.{ℕ, ◌^◌, ◌<◌}
+use Prim.Native.Nat.{ℕ, ◌<◌}
 use native.Mathlib.Omega.{arith}
 use Rattle.word.proofs.BitLaws.{bits_determine}
 use Rattle.answer.specs.declared.Answer.{Answer}
 use Rattle.answer.specs.Table.{Conditions}
 use Rattle.answer.proofs.TableLaws.{reflects_false}
 use Rattle.sheet_theory.specs.Lent.{Lent}
-use Rattle.edit_theory.specs.Edit.{named_at, insert_edge, delete_edge, insert_edges_at, delete_edges_at}
-use Rattle.edit_theory.specs.Outcome.{edit_answer, edit_after}
+use Rattle.edit_theory.specs.Edit.{named_at}
 use Rattle.edit_theory.proofs.TestLaws.{named_reflects}
-use Rattle.starred.specs.EveryCall.{row, edge, count, ones, every, Answers, Leaves, Edited, Insertion, Deletion, one, masks}
-use Rattle.starred.proofs.EditFields.{insert_field, delete_field, insert_at_field, delete_at_field}
+use Rattle.starred.specs.EveryCall.{row, edge, count, ones, every, Answers, Leaves, Edited, Insertion, Deletion}
 use Rattle.starred.proofs.AnswersOnly.{calls_only, sheets_only}
 
 module _ (n : ℕ) (s : Lent) (v A B : ℕ) where
@@ -42,25 +39,8 @@ module _ (n : ℕ) (s : Lent) (v A B : ℕ) where
     abbrev first : Conditions → Conditions
     first l = every n s (argued l)
 
-    insertion_only : (r w : Answer) (t u : Lent) → Insertion n s v A B first r t → Insertion n s v A B first w u → (r ≡ w) × (t ≡ u)
-    insertion_only r w t u p q = edit_only _ 1 _ _ r w t u p.answers p.leaves q.answers q.leaves (λ i j c d. c ∙ sym d)
+    pub insertion_line_only : (r w : Answer) (t u : Lent) → Insertion n s v A B first r t → Insertion n s v A B first w u → (r ≡ w) × (t ≡ u)
+    insertion_line_only r w t u p q = edit_only _ 1 _ _ r w t u p.answers p.leaves q.answers q.leaves (λ i j c d. c ∙ sym d)
 
-    deletion_only : (r w : Answer) (t u : Lent) → Deletion n s v A B first r t → Deletion n s v A B first w u → (r ≡ w) × (t ≡ u)
-    deletion_only r w t u p q = edit_only _ 0 _ _ r w t u p.answers p.leaves q.answers q.leaves (λ i j c d. omega (arith, c.0, c.1, d.0, d.1))
-
-module _ (n : ℕ) (s : Lent) where
-  pub insert_page_only : (u v : ℕ) (r : Answer) (t : Lent) → Insertion n s u 0 (2 ^ v) (one n s u v) r t
-      → (r ≡ edit_answer (insert_edge n u v) s) × (t ≡ edit_after (insert_edge n u v) s)
-  insert_page_only u v r t p = insertion_only n s u 0 (2 ^ v) _ r _ t _ p (insert_field n s u v)
-
-  pub delete_page_only : (u v : ℕ) (r : Answer) (t : Lent) → Deletion n s u 0 (2 ^ v) (one n s u v) r t
-      → (r ≡ edit_answer (delete_edge n u v) s) × (t ≡ edit_after (delete_edge n u v) s)
-  delete_page_only u v r t p = deletion_only n s u 0 (2 ^ v) _ r _ t _ p (delete_field n s u v)
-
-  pub insert_at_page_only : (v A B : ℕ) (r : Answer) (t : Lent) → Insertion n s v A B (masks n s v A B) r t
-      → (r ≡ edit_answer (insert_edges_at n v A B) s) × (t ≡ edit_after (insert_edges_at n v A B) s)
-  insert_at_page_only v A B r t p = insertion_only n s v A B _ r _ t _ p (insert_at_field n s v A B)
-
-  pub delete_at_page_only : (v A B : ℕ) (r : Answer) (t : Lent) → Deletion n s v A B (masks n s v A B) r t
-      → (r ≡ edit_answer (delete_edges_at n v A B) s) × (t ≡ edit_after (delete_edges_at n v A B) s)
-  delete_at_page_only v A B r t p = deletion_only n s v A B _ r _ t _ p (delete_at_field n s v A B)
+    pub deletion_line_only : (r w : Answer) (t u : Lent) → Deletion n s v A B first r t → Deletion n s v A B first w u → (r ≡ w) × (t ≡ u)
+    deletion_line_only r w t u p q = edit_only _ 0 _ _ r w t u p.answers p.leaves q.answers q.leaves (λ i j c d. omega (arith, c.0, c.1, d.0, d.1))

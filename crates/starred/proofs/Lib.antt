@@ -4,9 +4,10 @@ pub mod SheetFields
 pub mod EditFields
 pub mod QueryFields
 pub mod PlanFields
+pub mod EveryCall
 pub mod AnswersOnly
 pub mod SheetOnly
 pub mod EditOnly
 pub mod QueryOnly
 pub mod PlanOnly
-pub mod EveryCall
+pub mod EveryCallOnly

@@ -15,6 +15,9 @@ use Rattle.plan_theory.specs.Records.{number_on, left_by}
 use Rattle.plan_theory.specs.Calls.{ReadPlan, WritePlan}
 use Rattle.plan_theory.proofs.Meaning.{write_refused}
 use Rattle.plan_theory.proofs.InWords.{record_words, read_words, write_words, write_value_words, write_length_words, write_rest_words, write_place_words}
+use Rattle.edit_theory.specs.Edit.{insert_edge, delete_edge}
+use Rattle.edit_theory.specs.Outcome.{edit_answer}
+use Rattle.starred.specs.Calls.{contracts}
 use Rattle.starred.specs.EveryCall.{edge, ones, every, Answers, Leaves, Rest, Form, RecordsTaken, PlanRead, RecordGives}
 use Rattle.starred.specs.EveryCall.RecordGives.{inserts, deletes, malformed}
 use Rattle.starred.specs.EveryCall.PlanRead.{early, taken, stopped}
@@ -24,23 +27,23 @@ module _ (n : ℕ) (s : Lent) where
 
   module _ (plan : List ℕ) where
     -- a record by its bytes
-    record_gives : (m : ℕ) (q : Lent) → RecordGives n plan m q (number_on n q (record_at plan m)) (left_by n q (record_at plan m))
+    record_gives : (m : ℕ) (q : Lent) → RecordGives contracts n plan m q (number_on n q (record_at plan m)) (left_by n q (record_at plan m))
     record_gives m q =
         elim (record_words n plan m q) [
-          | inl w ↦ inserts w.0 w.1 w.2 w.3.0 w.3.1
-          | inr w ↦ elim w [ inl w ↦ deletes w.0 w.1 w.2 w.3.0 w.3.1 | inr w ↦ malformed w.0 w.1.0 w.1.1 ]
+          | inl w ↦ inserts w.0 w.1 (edit_answer (insert_edge n w.0 w.1) q) w.2 (refl, w.3.1) w.3.0
+          | inr w ↦ elim w [ inl w ↦ deletes w.0 w.1 (edit_answer (delete_edge n w.0 w.1) q) w.2 (refl, w.3.1) w.3.0 | inr w ↦ malformed w.0 w.1.0 w.1.1 ]
         ]
 
     -- it is taken after those before it, where its number is 0
-    taken_next : (m : ℕ) (q : Lent) → RecordsTaken n plan s m q → number_on n q (record_at plan m) ≡ 0 → RecordsTaken n plan s (suc m) (left_by n q (record_at plan m))
+    taken_next : (m : ℕ) (q : Lent) → RecordsTaken contracts n plan s m q → number_on n q (record_at plan m) ≡ 0 → RecordsTaken contracts n plan s (suc m) (left_by n q (record_at plan m))
     taken_next m q t z = (q, t, rw z at (record_gives m q))
 
     abbrev bad_length : Conditions
     bad_length = ((¬ (length plan % 8 ≡ 0)) ⊎ (32768 < length plan)) gives 13 ∷ []
 
-    pub read_plan_field : (r : Answer) (t : Lent) → ReadPlan n s plan r t → PlanRead n s plan r t
+    pub read_plan_field : (r : Answer) (t : Lent) → ReadPlan n s plan r t → PlanRead contracts n s plan r t
     read_plan_field r t h =
-        elim (read_words n plan (RecordsTaken n plan s) taken_next s r t refl h) [
+        elim (read_words n plan (RecordsTaken contracts n plan s) taken_next s r t refl h) [
           | inl w ↦ early (altering_valid_words n s bad_length _ w.0) w.1 w.2 w.3 w.4
           | inr w ↦ elim w [
             | inl w ↦ taken (altering_valid_words n s bad_length 0 w.0) w.1 w.2 w.3 w.4 w.5

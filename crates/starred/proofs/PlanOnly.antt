@@ -1,6 +1,6 @@
--- The page of every call leaves nothing open of plans: whatever answer, words and bytes meet what it says of a plan read or of a plan
--- written are those of the call's contract. Assumes nothing.
-use mathlib.Core.Path.{◌≡◌, refl, sym, ap, subst, ◌∙◌}
+-- What the page `EveryCall` says of a plan read and of a plan written, only one answer and one sheet or buffer meet; of a plan read where of
+-- the insertion and the deletion of one edge that is so. Assumes nothing.
+use mathlib.Core.Path.{◌≡◌, sym, ap, subst, ◌∙◌}
 use mathlib.Core.List.{List, [], ◌∷◌}
 use Prim.Native.Nat.{ℕ, zero, suc, ◌+◌, ◌-◌, ◌*◌, ◌/◌, ◌%◌, ◌≤◌, ◌<◌}
 use native.Mathlib.Decide.{ℕ_discrete, dec_lt}
@@ -13,15 +13,17 @@ use Rattle.answer.specs.declared.Answer.{Answer}
 use Rattle.answer.specs.Table.{◌gives◌, Conditions, First}
 use Rattle.answer.proofs.TableLaws.{first_only}
 use Rattle.answer.proofs.AnswerLaws.{answer_ext}
+use Rattle.sheet_theory.specs.Layout.{size}
 use Rattle.sheet_theory.specs.Lent.{Lent}
+use Rattle.sheet_theory.specs.Conditions.{BadLength}
 use Rattle.sheet_theory.specs.Valid.{Valid}
 use Rattle.sheet_theory.proofs.ValidLaws.{edge_le, accepted_valid}
-use Rattle.plan_theory.specs.Calls.{ReadPlan, ShortBuffer, WritePlan}
-use Rattle.starred.specs.EveryCall.{edge, ones, Form, RecordsTaken, PlanRead, RecordGives, before_records}
+use Rattle.starred.specs.Calls.{Calls}
+use Rattle.starred.specs.EveryCall.{edge, ones, every, Form, RecordsTaken, PlanRead, RecordGives, before_records}
 use Rattle.starred.specs.EveryCall.RecordGives.{inserts, deletes, malformed}
 use Rattle.starred.specs.EveryCall.PlanRead.{early, taken, stopped}
-use Rattle.starred.proofs.PlanFields.{SaidOfWritePlan, read_plan_field, write_plan_field}
-use Rattle.starred.proofs.AnswersOnly.{numbers_only, calls_only}
+use Rattle.starred.proofs.PlanFields.{SaidOfWritePlan}
+use Rattle.starred.proofs.AnswersOnly.{calls_only}
 
 -- ---- a plan read
 
@@ -29,70 +31,99 @@ use Rattle.starred.proofs.AnswersOnly.{numbers_only, calls_only}
 form_only : (bytes : List ℕ) (m a u v b x y : ℕ) → Form bytes m a u v → Form bytes m b x y → (a ≡ b) × (u ≡ x) × (v ≡ y)
 form_only bytes m a u v b x y f g = encoded_injective a u v b x y (sym f.2 ∙ g.2)
 
--- so the record m gives one number on a sheet, and leaves one sheet
-module _ (n : ℕ) (plan : List ℕ) (m : ℕ) (s : Lent) (k l : ℕ) (t q : Lent) where
-  gives_only : RecordGives n plan m s k t → RecordGives n plan m s l q → (k ≡ l) × (t ≡ q)
-  gives_only (inserts u v f e h) (inserts x y g d i) = let o = form_only plan m 76 u v 76 x y f g in rw (e, d, h, i, o.1, o.2) (refl, refl)
-  gives_only (inserts u v f e h) (deletes x y g d i) = let o = form_only plan m 76 u v 84 x y f g in absurd (omega (arith, o.0))
-  gives_only (inserts u v f e h) (malformed g d i) = absurd ((g u v).0 f)
-  gives_only (deletes u v f e h) (inserts x y g d i) = let o = form_only plan m 84 u v 76 x y f g in absurd (omega (arith, o.0))
-  gives_only (deletes u v f e h) (deletes x y g d i) = let o = form_only plan m 84 u v 84 x y f g in rw (e, d, h, i, o.1, o.2) (refl, refl)
-  gives_only (deletes u v f e h) (malformed g d i) = absurd ((g u v).1 f)
-  gives_only (malformed f e h) (inserts x y g d i) = absurd ((f x y).0 g)
-  gives_only (malformed f e h) (deletes x y g d i) = absurd ((f x y).1 g)
-  gives_only (malformed f e h) (malformed g d i) = (e ∙ sym d, h ∙ sym i)
+-- what c and d say of an insertion or a deletion of one edge, only one answer and one sheet meet
+pub record SameEdits (c d : Calls) : Type 0 where
+  pub insert_edge : (n : ℕ) (s : Lent) (u v : ℕ) (r w : Answer) (t q : Lent)
+      → c.insert_edge n s u v r t → d.insert_edge n s u v w q → (r ≡ w) × (t ≡ q)
+  pub delete_edge : (n : ℕ) (s : Lent) (u v : ℕ) (r w : Answer) (t q : Lent)
+      → c.delete_edge n s u v r t → d.delete_edge n s u v w q → (r ≡ w) × (t ≡ q)
 
-module _ (n : ℕ) (s : Lent) (plan : List ℕ) where
-  -- so the first m records leave one sheet
-  records_only : (m : ℕ) (t q : Lent) → RecordsTaken n plan s m t → RecordsTaken n plan s m q → t ≡ q
-  records_only zero t q a b = a ∙ sym b
-  records_only (suc m) t q a b =
-      let e = records_only m a.0 b.0 a.1 b.1 in
-      (gives_only n plan m b.0 0 0 t q (subst (λ x. RecordGives n plan m x 0 t) e a.2) b.2).1
+module _ (c d : Calls) (same : SameEdits c d) (n : ℕ) (plan : List ℕ) where
+  -- so the record m gives one number on a sheet, and leaves one sheet
+  module _ (m : ℕ) (s : Lent) (k l : ℕ) (t q : Lent) where
+    number_of : {r w : Answer} → (r ≡ w) × (t ≡ q) → k ≡ r.number → l ≡ w.number → (k ≡ l) × (t ≡ q)
+    number_of e f g = (f ∙ ap (λ (x : Answer). x.number) e.0 ∙ sym g, e.1)
 
-  -- where the record m is refused, no more than m are taken
-  module _ (m k : ℕ) (q u : Lent) (a : RecordsTaken n plan s m q) (g : RecordGives n plan m q k u) (d : ¬ (k ≡ 0)) where
-    not_more : (j : ℕ) (t : Lent) → m < j → ¬ (RecordsTaken n plan s j t)
-    not_more zero t h b = omega (arith, h)
-    not_more (suc j) t h b =
-        elim (ℕ_discrete m j) [
-          | yes e ↦
-              let c = records_only m b.0 q (rw (← e) at b.1) a in
-              d (gives_only n plan m q k 0 u t g (subst (λ x. RecordGives n plan m x 0 t) c (rw (← e) at b.2))).0
-          | no f ↦ not_more j b.0 (omega (arith, h, f)) b.1
-        ]
+    gives_only : RecordGives c n plan m s k t → RecordGives d n plan m s l q → (k ≡ l) × (t ≡ q)
+    gives_only (inserts u v r f e h) (inserts x y w g b i) =
+        let o = form_only plan m 76 u v 76 x y f g in
+        number_of (same.insert_edge n s u v r w t q e (rw (sym o.1, sym o.2) at b)) h i
+    gives_only (inserts u v r f e h) (deletes x y w g b i) = let o = form_only plan m 76 u v 84 x y f g in absurd (omega (arith, o.0))
+    gives_only (inserts u v r f e h) (malformed g b i) = absurd ((g u v).0 f)
+    gives_only (deletes u v r f e h) (inserts x y w g b i) = let o = form_only plan m 84 u v 76 x y f g in absurd (omega (arith, o.0))
+    gives_only (deletes u v r f e h) (deletes x y w g b i) =
+        let o = form_only plan m 84 u v 84 x y f g in
+        number_of (same.delete_edge n s u v r w t q e (rw (sym o.1, sym o.2) at b)) h i
+    gives_only (deletes u v r f e h) (malformed g b i) = absurd ((g u v).1 f)
+    gives_only (malformed f e h) (inserts x y w g b i) = absurd ((f x y).0 g)
+    gives_only (malformed f e h) (deletes x y w g b i) = absurd ((f x y).1 g)
+    gives_only (malformed f e h) (malformed g b i) = (e ∙ sym b, h ∙ sym i)
 
-  -- what is refused before the first record is not accepted there
-  not_early : (k : ℕ) → First (before_records n s plan) k → ¬ (k ≡ 0) → ¬ (First (before_records n s plan) 0)
-  not_early k f d g = d (first_only (before_records n s plan) k 0 f g)
+  module _ (s : Lent) where
+    -- so the first m records leave one sheet
+    records_only : (m : ℕ) (t q : Lent) → RecordsTaken c n plan s m t → RecordsTaken d n plan s m q → t ≡ q
+    records_only zero t q a b = a ∙ sym b
+    records_only (suc m) t q a b =
+        let e = records_only m a.0 b.0 a.1 b.1 in
+        (gives_only m b.0 0 0 t q (subst (λ x. RecordGives c n plan m x 0 t) e a.2) b.2).1
+
+    -- where by c the record m is refused, by d no more than m are taken
+    module _ (m k : ℕ) (q u : Lent) (a : RecordsTaken c n plan s m q) (g : RecordGives c n plan m q k u) (z : ¬ (k ≡ 0)) where
+      not_more : (j : ℕ) (t : Lent) → m < j → ¬ (RecordsTaken d n plan s j t)
+      not_more zero t h b = omega (arith, h)
+      not_more (suc j) t h b =
+          elim (ℕ_discrete m j) [
+            | yes e ↦
+                let x = records_only m q b.0 a (rw (← e) at b.1) in
+                z (gives_only m q k 0 u t g (subst (λ y. RecordGives d n plan m y 0 t) (sym x) (rw (← e) at b.2))).0
+            | no f ↦ not_more j b.0 (omega (arith, h, f)) b.1
+          ]
+
+-- what is refused before the first record is not accepted there
+not_early : (n : ℕ) (s : Lent) (plan : List ℕ) (k : ℕ) → First (before_records n s plan) k → ¬ (k ≡ 0) → ¬ (First (before_records n s plan) 0)
+not_early n s plan k f d g = d (first_only (before_records n s plan) k 0 f g)
+
+turned : (c d : Calls) → SameEdits c d → SameEdits d c
+turned c d same = record {
+  insert_edge = λ n s u v r w t q a b. let e = same.insert_edge n s u v w r q t b a in (sym e.0, sym e.1);
+  delete_edge = λ n s u v r w t q a b. let e = same.delete_edge n s u v w r q t b a in (sym e.0, sym e.1);
+}
+
+module _ (c d : Calls) (same : SameEdits c d) (n : ℕ) (s : Lent) (plan : List ℕ) where
+  -- by d a record is refused, and by c more than those before it are taken; and the other way round
+  past_c : (m k : ℕ) (q u : Lent) → RecordsTaken d n plan s m q → RecordGives d n plan m q k u → ¬ (k ≡ 0) → (j : ℕ) (t : Lent) → m < j
+      → ¬ (RecordsTaken c n plan s j t)
+  past_c m k q u a g z = not_more d c (turned c d same) n plan s m k q u a g z
+
+  past_d : (m k : ℕ) (q u : Lent) → RecordsTaken c n plan s m q → RecordGives c n plan m q k u → ¬ (k ≡ 0) → (j : ℕ) (t : Lent) → m < j
+      → ¬ (RecordsTaken d n plan s j t)
+  past_d m k q u a g z = not_more c d same n plan s m k q u a g z
 
   module _ (r w : Answer) (t u : Lent) where
-    plans_only : PlanRead n s plan r t → PlanRead n s plan w u → (r ≡ w) × (t ≡ u)
-    plans_only (early c d p v e) (early c' d' p' v' e') =
-        (answer_ext r w (first_only (before_records n s plan) r.number w.number c c') (p ∙ sym p') (v ∙ sym v'), e ∙ sym e')
-    plans_only (early c d p v e) (taken c' z' p' v' a' x') = absurd (not_early r.number c d c')
-    plans_only (early c d p v e) (stopped m' q' o' c' h' a' g' d' p' v' e') = absurd (not_early r.number c d c')
-    plans_only (taken c z p v a x) (early c' d' p' v' e') = absurd (not_early w.number c' d' c)
-    plans_only (stopped m q o c h a g d p v e) (early c' d' p' v' e') = absurd (not_early w.number c' d' c)
-    plans_only (taken c z p v a x) (taken c' z' p' v' a' x') =
-        let e = records_only (length plan / 8) t u a a' in (answer_ext r w (z ∙ sym z') (p ∙ sym p') (v ∙ ap (ones n) e ∙ sym v'), e)
-    plans_only (taken c z p v a x) (stopped m' q' o' c' h' a' g' d' p' v' e') =
-        absurd (not_more m' w.number q' o' a' g' d' (length plan / 8) t h' a)
-    plans_only (stopped m q o c h a g d p v e) (taken c' z' p' v' a' x') = absurd (not_more m r.number q o a g d (length plan / 8) u h a')
-    plans_only (stopped m q o c h a g d p v e) (stopped m' q' o' c' h' a' g' d' p' v' e') =
+    pub read_plan_line_only : PlanRead c n s plan r t → PlanRead d n s plan w u → (r ≡ w) × (t ≡ u)
+    read_plan_line_only (early f z p v e) (early f' z' p' v' e') =
+        (answer_ext r w (first_only (before_records n s plan) r.number w.number f f') (p ∙ sym p') (v ∙ sym v'), e ∙ sym e')
+    read_plan_line_only (early f z p v e) (taken f' z' p' v' a' x') = absurd (not_early n s plan r.number f z f')
+    read_plan_line_only (early f z p v e) (stopped m' q' o' f' h' a' g' z' p' v' e') = absurd (not_early n s plan r.number f z f')
+    read_plan_line_only (taken f z p v a x) (early f' z' p' v' e') = absurd (not_early n s plan w.number f' z' f)
+    read_plan_line_only (stopped m q o f h a g z p v e) (early f' z' p' v' e') = absurd (not_early n s plan w.number f' z' f)
+    read_plan_line_only (taken f z p v a x) (taken f' z' p' v' a' x') =
+        let e = records_only c d same n plan s (length plan / 8) t u a a' in
+        (answer_ext r w (z ∙ sym z') (p ∙ sym p') (v ∙ ap (ones n) e ∙ sym v'), e)
+    read_plan_line_only (taken f z p v a x) (stopped m' q' o' f' h' a' g' z' p' v' e') =
+        absurd (past_c m' w.number q' o' a' g' z' (length plan / 8) t h' a)
+    read_plan_line_only (stopped m q o f h a g z p v e) (taken f' z' p' v' a' x') = absurd (past_d m r.number q o a g z (length plan / 8) u h a')
+    read_plan_line_only (stopped m q o f h a g z p v e) (stopped m' q' o' f' h' a' g' z' p' v' e') =
         elim (ℕ_discrete m m') [
-          | yes f ↦
-              let x = records_only m' q' q a' (rw f at a) in
-              let y = subst (λ b. RecordGives n plan m' b w.number o') x g' in
-              (answer_ext r w (gives_only n plan m' q r.number w.number o o' (rw f at g) y).0 (omega (arith, p, p', f)) (v ∙ sym v'), e ∙ sym e')
-          | no f ↦ elim (dec_lt m m') [
-            | yes l ↦ absurd (not_more m r.number q o a g d m' q' l a')
-            | no l ↦ absurd (not_more m' w.number q' o' a' g' d' m q (omega (arith, l, f)) a)
+          | yes k ↦
+              let x = records_only c d same n plan s m' q q' (rw k at a) a' in
+              let y = subst (λ b. RecordGives d n plan m' b w.number o') (sym x) g' in
+              (answer_ext r w (gives_only c d same n plan m' q r.number w.number o o' (rw k at g) y).0 (omega (arith, p, p', k)) (v ∙ sym v'), e ∙ sym e')
+          | no k ↦ elim (dec_lt m m') [
+            | yes l ↦ absurd (past_d m r.number q o a g z m' q' l a')
+            | no l ↦ absurd (past_c m' w.number q' o' a' g' z' m q (omega (arith, l, k)) a)
           ]
         ]
-
-    pub read_plan_page_only : PlanRead n s plan r t → ReadPlan n s plan w u → (r ≡ w) × (t ≡ u)
-    read_plan_page_only a h = plans_only a (read_plan_field n s plan w u h)
 
 -- ---- a plan written
 
@@ -138,14 +169,17 @@ module _ (n : ℕ) (s : Lent) where
       let number : sum i (λ a. sum 64 (edge s a)) + sum j (edge s i) ≡ k = omega (arith, p.2, p.3, q.2, q.3, edge_le s.words i j) in
       subst P number (holds i j p.1 hj e)
 
-  pub write_plan_page_only : (before : List ℕ) (r w : Answer) (after other : List ℕ) → SaidOfWritePlan n s before r after → WritePlan n s before w other
-      → (r ≡ w) × (after ≡ other)
-  write_plan_page_only before r w after other a h =
-      let b = write_plan_field n s before w other h in
-      let short : Conditions = ShortBuffer n s (length before) gives 10 ∷ [] in
+  -- what is accepted is valid
+  accepted_line_valid : (l : Conditions) → First (every n s ((¬ (Valid n s)) gives 9 ∷ l)) 0 → Valid n s
+  unfolding BadLength size
+  accepted_line_valid l f = accepted_valid n s l f
+
+  pub write_plan_line_only : (before : List ℕ) (r w : Answer) (after other : List ℕ) → SaidOfWritePlan n s before r after
+      → SaidOfWritePlan n s before w other → (r ≡ w) × (after ≡ other)
+  write_plan_line_only before r w after other a b =
       calls_only a.0 a.1 b.0 b.1
       (λ z x y.
-      let valid = accepted_valid n s short (rw (sym (numbers_only a.0 b.0) ∙ z) at h.number) in
+      let valid = accepted_line_valid ((length before < 8 * ones n s) gives 10 ∷ []) (rw z at a.0.number) in
       bytes_only (ones n s) after other (x.0.0 ∙ sym y.0.0)
       (by_edges valid (λ m. take 8 (drop (8 * m) after) ≡ take 8 (drop (8 * m) other))
       (λ i j hi hj e. (x.1 i j hi hj e).2 ∙ sym (y.1 i j hi hj e).2))

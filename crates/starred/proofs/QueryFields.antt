@@ -18,7 +18,7 @@ use Rattle.query_theory.specs.Rank.{rank_answer}
 use Rattle.query_theory.proofs.InWords.{reaches_without_words, reaches_without_valid_words, unrank_words, unrank_valid_words, rank_words, rank_valid_words}
 use Rattle.starred.specs.EveryCall.{edge, count, every, Answers, Tells, Ranked, IsWalk, Rest}
 
--- each `SaidOf` is the page's line of a call, said of any answer, and of any bytes that are left
+-- a name that begins with `SaidOf` is the page's line of a call, said of any answer, and of any bytes that are left
 module _ (n : ℕ) (s : Lent) where
   -- an answer by its four parts, with 1 and 2 before the conditions l
   answers_of : {l : Conditions} {r : Answer} {value : Type 0} → First (sized n s l) r.number → r.place ≡ 0

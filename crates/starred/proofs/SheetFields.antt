@@ -1,7 +1,7 @@
 -- The fields of `EveryCall` for the calls that are no edits, no questions of paths and no plans, and the bound. Assumes nothing.
 use mathlib.Core.Path.{◌≡◌, refl, sym, ap, ◌∙◌}
 use mathlib.Core.Logic.{◌⊎◌}
-use mathlib.Core.List.{[], ◌∷◌}
+use mathlib.Core.List.{List, [], ◌∷◌}
 use Prim.Native.Nat.{ℕ, ◌-◌, ◌^◌, ◌≤◌, ◌<◌}
 use native.Mathlib.Decide.{ℕ_discrete}
 use native.Mathlib.Omega.{arith}
@@ -11,14 +11,15 @@ use Rattle.graph.specs.Graph.{Exactly, IsPath, Cycle}
 use Rattle.graph.proofs.Bound.{bound_self, bound, paths_below}
 use Rattle.answer.specs.declared.Answer.{Answer}
 use Rattle.answer.specs.Table.{◌gives◌}
-use Rattle.sheet_theory.specs.Lent.{Lent}
+use Rattle.sheet_theory.specs.Layout.{most_vertices, empty_sheet}
+use Rattle.sheet_theory.specs.Lent.{Lent, lent}
 use Rattle.sheet_theory.specs.Valid.{Valid}
 use Rattle.sheet_theory.specs.Calls.{empty_answer, empty_after, path_count_answer}
 use Rattle.sheet_theory.proofs.Refusals.{empty_refused, path_count_refused}
 use Rattle.sheet_theory.proofs.LayoutLaws.{size_le, greatest}
 use Rattle.sheet_theory.proofs.Meaning.{valid_edges_le}
 use Rattle.sheet_theory.proofs.Complete.{most_edges_reached}
-use Rattle.sheet_theory.proofs.InWords.{sized_words, altering_words, set_bits_words, empty_words, empty_leaves_words, path_count_words, path_count_value_words}
+use Rattle.sheet_theory.proofs.InWords.{maker_words, sized_words, altering_words, set_bits_words, empty_words, empty_leaves_words, path_count_words, path_count_value_words}
 use Rattle.recount_theory.specs.Calls.{Recount, Validate}
 use Rattle.recount_theory.proofs.Refusals.{recount_refused, validate_refused}
 use Rattle.recount_theory.proofs.InWords.{recount_words, recount_value_words, recount_leaves_words, validate_words}
@@ -27,7 +28,7 @@ use Rattle.starred.specs.EveryCall.{row, edge, count, ones, Answers, Leaves, Tel
 value : (r r' : Answer) → r ≡ r' → r.value ≡ r'.value
 value r r' e = ap (λ (x : Answer). x.value) e
 
--- each `SaidOf` is the page's line of a call, said of any answer, and of any words that are left
+-- a name that begins with `SaidOf` is the page's line of a call, said of any answer, and of any words that are left
 module _ (n : ℕ) (s : Lent) where
   abbrev pub SaidOfEmpty : Answer → Lent → Type 0
   SaidOfEmpty r t = Answers (every n s []) r (r.value ≡ 0) × Leaves r s t (Valid n t × ((i : ℕ) → i < n → row t i ≡ 0))
@@ -82,6 +83,13 @@ module _ (n : ℕ) (s : Lent) where
     λ v. (omega (arith, v.shape.long, size_le n v.shape.high, greatest), omega (arith, set_bits_words n s, valid_edges_le n s v)),
     let x = most_edges_reached in (x.0, x.1, x.1.shape.long ∙ greatest, sym (set_bits_words 64 x.0) ∙ x.2),
   )
+
+-- the sheet of the type's maker
+abbrev pub SaidOfMaker : List ℕ → Type 0
+SaidOfMaker l = Valid 64 (lent l) × ((i : ℕ) → i < 64 → row (lent l) i ≡ 0)
+
+pub maker_field : SaidOfMaker (empty_sheet most_vertices)
+maker_field = (maker_words.1, maker_words.2)
 
 -- with 2 vertices or more at most 2 ^ (n - 2) paths lead from one to another, or to itself
 pub bound_field : (n : ℕ) (w : ℕ → ℕ → ℕ) → ¬ (Cycle n w) → (i j k : ℕ) → i < n → j < n → Exactly (IsPath n w i j) k

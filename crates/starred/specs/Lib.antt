@@ -1,3 +1,4 @@
 pub mod SheetOf
 pub mod Starred
+pub mod Calls
 pub mod EveryCall
