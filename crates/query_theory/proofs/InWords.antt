@@ -202,10 +202,10 @@ module _ (n : ℕ) (s : Lent) where
         let f = is_walk p in
         (λ h. f.0 (e.0 h), λ h. e.1 (f.1 h))
 
-    -- a list of vertices is empty, or it has some
-    dec_some : (p : List ℕ) → ¬ (p ≡ []) → 0 < length p
-    dec_some [] d = absurd (d refl)
-    dec_some (a ∷ p) d = omega arith
+    -- a list that is not empty has an entry
+    has_some : (p : List ℕ) → ¬ (p ≡ []) → 0 < length p
+    has_some [] d = absurd (d refl)
+    has_some (a ∷ p) d = omega arith
 
     none_iff : (walked edge count j n n i k ≡ []) ↔ (¬ ((p : List ℕ) × IsWalk p))
     none_iff =
@@ -246,7 +246,7 @@ module _ (n : ℕ) (s : Lent) where
             λ z.
                 let e : after ≡ written p before = decided_new _ (written p before) before z in
                 let g = subst (First cs) z f in
-                let w = (walked_words p).0 (refl, dec_some p (first_not cs 0 g 9 refl)) in
+                let w = (walked_words p).0 (refl, has_some p (first_not cs 0 g 9 refl)) in
                 let room : length p ≤ length before = omega (arith, w.2, first_not cs 0 g 10 refl) in
                 (p, w, decided_new _ _ 0 z, rw e (written_length p before room), rw e (written_after p before), rw e (written_at p before)),
             λ d. (decided_old _ _ 0 d, decided_old _ _ before d),

@@ -92,15 +92,6 @@ module _ (n : ℕ) (s : Lent) where
   pub rank_table : (p : List ℕ) (k : ℕ) → ((rank_answer n s p).number ≡ k) ↔ First (rank_conditions n s p) k
   rank_table p k = first_iff (rank_conditions n s p) _ k (rank_first p).first
 
--- ---- a refusal has the value 0
-
-pub reaches_without_refused : (n : ℕ) (s : Lent) (i j u v : ℕ) → ¬ ((reaches_without_answer n s i j u v).number ≡ 0)
-    → reaches_without_answer n s i j u v ≡ answer (reaches_without_number n s i j u v) 0 0
-reaches_without_refused n s i j u v d = answered_not (reaches_without_number n s i j u v) _ d
-
-pub rank_refused : (n : ℕ) (s : Lent) (p : List ℕ) → ¬ ((rank_answer n s p).number ≡ 0) → rank_answer n s p ≡ answer (rank_number n s p) 0 0
-rank_refused n s p d = answered_not (rank_number n s p) _ d
-
 -- a refused `unrank` has the value 0 and changes no byte
 pub unrank_refused : (n : ℕ) (s : Lent) (i j k : ℕ) (buffer : List ℕ) → ¬ ((unrank_answer n s i j k (length buffer)).number ≡ 0)
     → (unrank_answer n s i j k (length buffer) ≡ answer (unrank_number n s i j k (length buffer)) 0 0) × (unrank_after n s i j k buffer ≡ buffer)

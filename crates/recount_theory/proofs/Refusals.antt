@@ -1,4 +1,4 @@
--- What is refused: for every n, every length and all words, it has the place 0 and the value 0 and changes no word. Assumes nothing.
+-- A refused call, for every n, every length and all words, has the place 0 and the value 0 and changes no word. Assumes nothing.
 use mathlib.Core.Path.{◌≡◌, refl, ◌∙◌}
 use mathlib.Core.Logic.{inl, inr}
 use mathlib.Core.List.{[]}

@@ -1,4 +1,5 @@
--- What the page of every call says alike of many calls is met by one number, one answer, one buffer and one sheet. Assumes nothing.
+-- Of what the page `EveryCall` says in the same words of several calls (`Answers`, `Leaves`, `Tells`): only one answer, one buffer and one
+-- sheet meet it. Assumes nothing.
 use mathlib.Core.Path.{◌≡◌, sym, ◌∙◌}
 use mathlib.Core.Logic.{inl, inr}
 use Prim.Native.Nat.{ℕ, ◌+◌, ◌*◌, ◌<◌}
