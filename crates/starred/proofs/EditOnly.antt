@@ -1,4 +1,4 @@
--- What the page `EveryCall` says of an insertion or a deletion, only one answer and one sheet meet. Assumes nothing.
+-- Only one answer, and one sheet afterwards, meet what the page `EveryCall` says of an insertion or a deletion. Assumes nothing.
 use mathlib.Core.Path.{◌≡◌, refl, sym, ap, ◌∙◌}
 use mathlib.Core.Bool.{Bool, true, false}
 use Prim.Native.Nat.{ℕ, ◌<◌}

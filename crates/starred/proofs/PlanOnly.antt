@@ -1,5 +1,5 @@
--- What the page `EveryCall` says of a plan read and of a plan written, only one answer and one sheet or buffer meet; of a plan read where of
--- the insertion and the deletion of one edge that is so. Assumes nothing.
+-- Only one answer, and one sheet or buffer afterwards, meet what the page `EveryCall` says of a plan read and of a plan written; of a plan
+-- read, if that is so of the insertion and the deletion of one edge. Assumes nothing.
 use mathlib.Core.Path.{◌≡◌, sym, ap, subst, ◌∙◌}
 use mathlib.Core.List.{List, [], ◌∷◌}
 use Prim.Native.Nat.{ℕ, zero, suc, ◌+◌, ◌-◌, ◌*◌, ◌/◌, ◌%◌, ◌≤◌, ◌<◌}
@@ -31,7 +31,7 @@ use Rattle.starred.proofs.AnswersOnly.{calls_only}
 form_only : (bytes : List ℕ) (m a u v b x y : ℕ) → Form bytes m a u v → Form bytes m b x y → (a ≡ b) × (u ≡ x) × (v ≡ y)
 form_only bytes m a u v b x y f g = encoded_injective a u v b x y (sym f.2 ∙ g.2)
 
--- what c and d say of an insertion or a deletion of one edge, only one answer and one sheet meet
+-- only one answer, and one sheet afterwards, meet what c and d say of an insertion or a deletion of one edge
 pub record SameEdits (c d : Calls) : Type 0 where
   pub insert_edge : (n : ℕ) (s : Lent) (u v : ℕ) (r w : Answer) (t q : Lent)
       → c.insert_edge n s u v r t → d.insert_edge n s u v w q → (r ≡ w) × (t ≡ q)
@@ -83,6 +83,7 @@ module _ (c d : Calls) (same : SameEdits c d) (n : ℕ) (plan : List ℕ) where
 not_early : (n : ℕ) (s : Lent) (plan : List ℕ) (k : ℕ) → First (before_records n s plan) k → ¬ (k ≡ 0) → ¬ (First (before_records n s plan) 0)
 not_early n s plan k f d g = d (first_only (before_records n s plan) k 0 f g)
 
+-- and with c and d exchanged
 turned : (c d : Calls) → SameEdits c d → SameEdits d c
 turned c d same = record {
   insert_edge = λ n s u v r w t q a b. let e = same.insert_edge n s u v w r q t b a in (sym e.0, sym e.1);
@@ -90,7 +91,7 @@ turned c d same = record {
 }
 
 module _ (c d : Calls) (same : SameEdits c d) (n : ℕ) (s : Lent) (plan : List ℕ) where
-  -- by d a record is refused, and by c more than those before it are taken; and the other way round
+  -- neither takes more records than stand before one that the other refuses
   past_c : (m k : ℕ) (q u : Lent) → RecordsTaken d n plan s m q → RecordGives d n plan m q k u → ¬ (k ≡ 0) → (j : ℕ) (t : Lent) → m < j
       → ¬ (RecordsTaken c n plan s j t)
   past_c m k q u a g z = not_more d c (turned c d same) n plan s m k q u a g z

@@ -1,5 +1,5 @@
--- What the page `EveryCall` says of supply without an edge, of the path of a rank and of the rank of a path, only one answer and one buffer
--- meet. Assumes nothing.
+-- Only one answer, and one buffer afterwards, meet what the page `EveryCall` says of supply without an edge, of the path of a rank and of the
+-- rank of a path. Assumes nothing.
 use mathlib.Core.Path.{◌≡◌, sym, ap, ◌∙◌}
 use mathlib.Core.List.{List}
 use Prim.Native.Nat.{ℕ, ◌<◌}

@@ -1,5 +1,5 @@
--- What the page `EveryCall` says of an empty sheet, a count, a recount, the test of a stored sheet and the maker of the sheet's type, only one
--- answer and one sheet meet. Assumes nothing.
+-- Only one answer, and one sheet afterwards, meet what the page `EveryCall` says of an empty sheet, a count, a recount and the test of a
+-- stored sheet; and only one list of words what it says of the maker of the sheet's type. Assumes nothing.
 use mathlib.Core.Path.{◌≡◌, sym, ap, ◌∙◌}
 use mathlib.Core.List.{List}
 use Prim.Native.Nat.{ℕ}
