@@ -54,7 +54,7 @@ contracts = record {
   maker = λ words. words ≡ empty_sheet most_vertices;
 }
 
--- what c says of a call and what d says of it is met by one answer, and by one sheet or buffer afterwards
+-- any answer that c allows to a call and any that d allows are equal, and so are the sheets or buffers afterwards
 pub record SameCalls (c d : Calls) : Type 0 where
   pub empty : (n : ℕ) (s : Lent) (r w : Answer) (t u : Lent) → c.empty n s r t → d.empty n s w u → (r ≡ w) × (t ≡ u)
   pub insert_edge : (n : ℕ) (s : Lent) (from to : ℕ) (r w : Answer) (t u : Lent)
