@@ -155,9 +155,9 @@ module _ (n : ℕ) (s : Lent) where
   -- ---- the path of a rank
 
   module _ (i j k : ℕ) where
-    -- p is the walk from i to j by the rank k: at most n vertices, and left x is what is left of the rank at the place x. From a vertex that
-    -- isn't j it goes along an edge to a vertex below n: the counts of the edges to lower vertices are taken off, and what is left is below
-    -- the count of that one. On arriving nothing is left.
+    -- p is the walk from i to j by the rank k, of at most n vertices, of which the last alone is j; `left x` is what is left of k at the place
+    -- x. At each step the counts to j from the neighbours below the next vertex are taken off, and what is left is below the count from the
+    -- next; at j nothing is left.
     abbrev IsWalk : List ℕ → Type 0
     IsWalk p =
         let at : ℕ → ℕ = λ x. get_or p x 0 in

@@ -1,5 +1,5 @@
--- The calls of which document 01's table speaks, as `EveryCall` speaks of them; and what their contracts say. Definitions only. Assumes
--- nothing.
+-- The thirteen calls of document 01's table and the maker of the sheet's type, as `EveryCall` speaks of them, and what their contracts say.
+-- Definitions only. Assumes nothing.
 use Rattle.std.specs.Prelude.{◌≡◌, List, ℕ, length}
 use Rattle.answer.specs.declared.Answer.{Answer}
 use Rattle.sheet_theory.specs.Layout.{most_vertices, empty_sheet}

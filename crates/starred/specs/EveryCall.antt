@@ -1,11 +1,11 @@
 -- DOCUMENT 01'S TABLE AS ONE STATEMENT. For every n, every length, all words and all bytes: what each of the thirteen calls answers and
--- what it leaves of each buffer, in document 01's words. `calls` are any such calls; `every_call` proves the statement of those that the
--- contracts describe. Stations, pipes, routes and rings are vertices, edges, paths and cycles (`IsPath`, `Cycle` and `Exactly` stand in
--- crates/graph/specs/Graph.antt); laying and lifting are insertion and deletion; the survey and the test are recount and validate. A `Lent`
--- has the words of a sheet, an `Answer` a number, a place and a value. `get_or l x 0` is the entry of l at the place x, from 0 up, and 0 past
--- its end; `take m` keeps the first m entries, and `drop m` the others; `bit x j` is bit j of x; x - y is 0 if y is greater; `sum n f` is the
--- sum of f 0 to f (n - 1); `delta i j` is 1 if i is j, else 0. `P gives k` is a row of the table; `First` is the number of the first row of a
--- list that holds, and 0 if none does. Definitions only. Assumes nothing.
+-- what it leaves of each buffer, in document 01's words. The statement is about any thirteen calls, named `calls`; `every_call` proves it
+-- of those that the contracts describe. Stations, pipes, routes and rings are vertices, edges, paths and cycles (`IsPath`, `Cycle` and
+-- `Exactly` stand in crates/graph/specs/Graph.antt); laying and lifting are insertion and deletion; the survey and the test are recount and
+-- validate. A `Lent` has the words of a sheet, an `Answer` a number, a place and a value. `get_or l x 0` is the entry of l at the place x,
+-- from 0 up, and 0 past its end; `take m` keeps the first m entries, and `drop m` the others; `bit x j` is bit j of x; x - y is 0 if y is
+-- greater; `sum n f` is the sum of f 0 to f (n - 1); `delta i j` is 1 if i is j, else 0. `P gives k` is a row of the table; `First` is the
+-- number of the first row of a list that holds, and 0 if none does. Definitions only. Assumes nothing.
 use Rattle.std.specs.Prelude.{◌≡◌, ◌⊎◌, ◌↔◌, List, [], ◌∷◌, ℕ, zero, suc, ◌+◌, ◌-◌, ◌*◌, ◌/◌, ◌%◌, ◌^◌, ◌≤◌, ◌<◌, length, get_or, take, drop}
 use Rattle.sums.specs.Sum.{sum, delta}
 use Rattle.word.specs.Bit.{bit}
@@ -112,8 +112,8 @@ Ranked n s i j k p = IsPath n (edge s) i j p × Exactly (λ l. IsPath n (edge s)
     × ((x : ℕ) × (x < length l) × (x < length p) × ((y : ℕ) → y < x → get_or l y 0 ≡ get_or p y 0) × (get_or l x 0 < get_or p x 0))) k
 
 -- p is the walk from i to j by the rank k, of at most n vertices, of which the last alone is j; `left x` is what is left of k at the place x.
--- At each step the counts to j from the neighbours below the next vertex are taken off, and what is left is below that from the next; at
--- j nothing is left.
+-- At each step the counts to j from the neighbours below the next vertex are taken off, and what is left is below the count from the next;
+-- at j nothing is left.
 abbrev pub IsWalk : ℕ → Lent → ℕ → ℕ → ℕ → List ℕ → Type 0
 IsWalk n s i j k p = let at : ℕ → ℕ = λ x. get_or p x 0 in let last : ℕ = length p - 1 in
     (left : ℕ → ℕ) × (0 < length p) × (length p ≤ n) × (at 0 ≡ i) × (left 0 ≡ k) × (at last ≡ j) × (left last ≡ 0)
