@@ -155,7 +155,8 @@ impl Combine for Minus {
     }
 }
 
-// Internal: a + b, modulo 2 ^ 64. Document 01 names this form, and the two below it.
+// Internal: a + b, modulo 2 ^ 64. Document 01 names the forms of this function and of the two below it: the sum and the difference are
+// supplied by the library, and the product is worked out here.
 pub fn wrapping_add(a: u64, b: u64) -> u64
     ensures { result ≡ (a + b) % 2 ^ 64 }
 {
@@ -169,9 +170,14 @@ pub fn wrapping_sub(a: u64, b: u64) -> u64
     a.wrapping_sub(b)
 }
 
-// Internal: a * b, modulo 2 ^ 64.
+// Internal: a * b, modulo 2 ^ 64, by halves of 32 bits. The product of the high halves is a multiple of 2 ^ 64.
 pub fn wrapping_mul(a: u64, b: u64) -> u64
     ensures { result ≡ a * b % 2 ^ 64 }
 {
-    a.wrapping_mul(b)
+    let al = a & 0xffff_ffff;
+    let ah = a >> 32;
+    let bl = b & 0xffff_ffff;
+    let bh = b >> 32;
+    let cross = wrapping_add(ah * bl, bh * al);
+    wrapping_add(cross << 32, al * bl)
 }
