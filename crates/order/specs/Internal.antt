@@ -6,7 +6,6 @@ use Rattle.graph.specs.Graph.{Edge, Cycle}
 use Rattle.graph.specs.Order.{Order}
 use Rattle.sheet_theory.specs.Layout.{row_at, edge_at}
 use Rattle.sheet_theory.specs.Internal.{RowsBelow}
-use Rattle.arrayvec.specs.ArrayVec.{ArrayVec}
 
 -- the vertex at place k of an order or of a stack
 abbrev pub vertex_at : List ℕ → ℕ → ℕ
@@ -53,8 +52,3 @@ pub record Ordered (n : ℕ) (s l : List ℕ) : Type 0 where
   pub long : length l ≡ n
   pub order : Order n (edge_at s) n (vertex_at l)
   pub all : (i : ℕ) → i < n → (m : ℕ) × (m < n) × (vertex_at l m ≡ i)
-
--- such an order was found; or none, and there is a cycle
-abbrev pub OrderFound : ℕ → List ℕ → Option (ArrayVec ℕ) → Type 0
-OrderFound n s (Some v) = Ordered n s v.items
-OrderFound n s None = Cycle n (edge_at s)

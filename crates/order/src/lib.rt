@@ -4,9 +4,11 @@
 // a vertex is found by one step, and there are at most 2 n steps where there is no cycle.
 #![tactic(auto)]
 
-ghost use Rattle.std.specs.Prelude.{◌<◌, ◌^◌};
+ghost use Rattle.std.specs.Prelude.{◌<◌, ◌^◌, MatchOption};
+ghost use Rattle.graph.specs.Graph.{Cycle};
+ghost use Rattle.sheet_theory.specs.Layout.{edge_at};
 ghost use Rattle.sheet_theory.specs.Internal.{RowsBelow};
-ghost use Rattle.order.specs.Internal.{Stack, Ahead, Descended, OrderFound};
+ghost use Rattle.order.specs.Internal.{Stack, Ahead, Descended, Ordered};
 
 use arrayvec::ArrayVec;
 use sheet::{Sheet, View};
@@ -48,13 +50,17 @@ fn descend(
     stack.pop()
 }
 
-// Internal: every vertex, each after those to which its edges lead. None, if there is a cycle.
+// Internal: every vertex, each after those to which its edges lead. They stand in the vector that is lent: one that is handed out is copied,
+// and `validate` takes a quarter longer on 4 vertices. None, if there is a cycle.
 #[tactic(auto, using(crate::proofs::OrderLaws::order_laws))]
-pub fn find_order(sheet: View) -> Option<ArrayVec<usize, { Sheet::VERTICES }>>
+pub fn find_order<'o>(
+    sheet: View,
+    order: &'o mut ArrayVec<usize, { Sheet::VERTICES }>,
+) -> Option<&'o [usize]>
     requires { RowsBelow sheet.n sheet.words.now }
-    ensures { OrderFound sheet.entry.n sheet.entry.words.now result }
+    ensures { MatchOption result (Cycle sheet.entry.n (edge_at sheet.entry.words.now)) (λ l. Ordered sheet.entry.n sheet.entry.words.now l.now) }
 {
-    let mut order = ArrayVec::new();
+    order.clear();
     let mut stack = ArrayVec::new();
     let mut left = word::low_bits(sheet.n);
     // A `while`: `descend` finds the vertex that a turn takes out of the mask `left`, so no iterator stands for it.
@@ -63,5 +69,5 @@ pub fn find_order(sheet: View) -> Option<ArrayVec<usize, { Sheet::VERTICES }>>
         left = word::clear_bit(left, last);
         order.push(last);
     }
-    Some(order)
+    Some(order.as_slice())
 }

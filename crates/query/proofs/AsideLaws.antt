@@ -2,7 +2,6 @@
 use Rattle.std.proofs.Common.{◌≡◌, Bool, true, false, eqb, ℕ, suc, ◌+◌, ◌-◌, ◌≤◌, ◌<◌, Option, Some, None, MatchOption, List, [], ◌∷◌, ◌++◌, length, refl, sym, ap, ◌∙◌, length-append, eqb-true, arith}
 use Rattle.std.proofs.lemmas.Bool.{eqb-false}
 use Rattle.std.specs.Bool.{then_some}
-use Rattle.arrayvec.specs.ArrayVec.{ArrayVec}
 use Rattle.sheet_theory.specs.Layout.{count_at, edge_at}
 use Rattle.query.specs.declared.walk.Next.{Next}
 use Rattle.query_theory.specs.Walk.{headed, walked}
@@ -79,9 +78,10 @@ module _ (n : ℕ) (s : List ℕ) (i j k : ℕ) where
         is = el ∙ sym (rest ∙ ap (onto l) (walked_here n (edge_at s) (count_at n s) j _ at left e z) ∙ onto_alone l at);
       }
 
-      pub walking_ends : at ≡ j → (v : ArrayVec ℕ) → v.items ≡ l' → (o : Option (ArrayVec ℕ)) → o ≡ then_some (eqb left 0) v
-          → MatchOption o (walk n s i j k ≡ []) (λ w. IsWalk n s i j k w.items)
-      walking_ends e v ev o eo =
+      -- v has the vertices kept, as f says
+      pub walking_ends : at ≡ j → {A : Type 0} (f : A → List ℕ) (v : A) → f v ≡ l' → (o : Option A) → o ≡ then_some (eqb left 0) v
+          → MatchOption o (walk n s i j k ≡ []) (λ w. IsWalk n s i j k (f w))
+      walking_ends e f v ev o eo =
           some_if (eqb left 0) v o _ _ eo
           (λ z. rw ev (here e (eqb-true left 0 z)))
           (λ z. fails (walked_left n (edge_at s) (count_at n s) j _ at left e (eqb-false left 0 z)))

@@ -14,6 +14,7 @@ mod passed;
 mod walk;
 mod without;
 
+use arrayvec::ArrayVec;
 use sheet::{Answer, Refusal, View};
 use walk::ByRank;
 use without::WithoutEdge;
@@ -66,8 +67,10 @@ fn write_walk(n: usize, sheet: &[u64], asked: ByRank, path: &mut [u8]) -> Result
 {
     let sheet = View::of(n, sheet)?;
     asked.check(sheet, path.len())?;
-    let walk = asked.walk(sheet).ok_or(Refusal::NotValid)?;
-    path[..walk.len()].copy_from_slice(&walk);
+
+    let mut room = ArrayVec::new();
+    let walk = asked.walk(sheet, &mut room).ok_or(Refusal::NotValid)?;
+    path[..walk.len()].copy_from_slice(walk);
 
     // The length is cast: from `usize` to `u64` there is no `From`.
     Ok(walk.len() as u64)

@@ -57,19 +57,24 @@ impl ByRank {
         Ok(())
     }
 
-    // The vertices of the walk, if it arrives with the rank at 0.
-    pub(crate) fn walk(self, sheet: View) -> Option<ArrayVec<u8, { Sheet::VERTICES }>>
+    // The vertices of the walk, if it arrives with the rank at 0. They stand in the vector that is lent: one that is handed out is copied, and
+    // `unrank` takes a third longer on a walk of one vertex.
+    pub(crate) fn walk<'w>(
+        self,
+        sheet: View,
+        path: &'w mut ArrayVec<u8, { Sheet::VERTICES }>,
+    ) -> Option<&'w [u8]>
         requires { (self.from < sheet.n) × (self.to < sheet.n) }
-        ensures { MatchOption result (walk sheet.entry.n sheet.entry.words.now self.from self.to self.k ≡ []) (λ l. IsWalk sheet.entry.n sheet.entry.words.now self.from self.to self.k l.items) }
+        ensures { MatchOption result (walk sheet.entry.n sheet.entry.words.now self.from self.to self.k ≡ []) (λ l. IsWalk sheet.entry.n sheet.entry.words.now self.from self.to self.k l.now) }
     {
-        let mut path = ArrayVec::new();
+        path.clear();
         let mut at = self.from;
         let mut left = self.k;
         for _ in 0..sheet.n {
             // A vertex fits a byte, so the cast loses nothing; `try_from` would give an error that can't come.
             path.push(at as u8);
             if at == self.to {
-                return (left == 0).then_some(path);
+                return (left == 0).then_some(path.as_slice());
             }
             let next = step(sheet, at, self.to, left)?;
             at = next.vertex;

@@ -12,6 +12,7 @@ ghost use Rattle.recount_theory.specs.Calls.{row_conditions, RecountBy, Recount,
 ghost use Rattle.vertex_counts.specs.Internal.{counted};
 ghost use Rattle.order.specs.Internal.{Ordered};
 
+use arrayvec::ArrayVec;
 use sheet::{Answer, Refusal, View};
 
 // The counts, in the order given: each from those of its successors, which are earlier. What writes a sheet takes n and the words, here and
@@ -38,12 +39,8 @@ pub fn recount_core(n: usize, sheet: &mut [u64]) -> Result<u64, Refusal>
         return Err(Refusal::StrayBit);
     }
 
-    // The order is read where it was found: `ok_or` and `?` copy it, and `validate`, which reads it so too, takes a fifth longer on 10
-    // vertices.
-    let found = order::find_order(lent);
-    let Some(order) = &found else {
-        return Err(Refusal::Cycle);
-    };
+    let mut room = ArrayVec::new();
+    let order = order::find_order(lent, &mut room).ok_or(Refusal::Cycle)?;
     fill_counts(n, sheet, order);
     let counted = View { n, words: sheet };
     Ok(counted.set_bits())
@@ -73,8 +70,8 @@ fn is_valid(sheet: View) -> bool
     if sheet.has_stray_row() {
         return false;
     }
-    let found = order::find_order(sheet);
-    let Some(order) = &found else {
+    let mut room = ArrayVec::new();
+    let Some(order) = order::find_order(sheet, &mut room) else {
         return false;
     };
     if sheet.n < count_blocks::COLUMNS {

@@ -1,8 +1,8 @@
 -- The laws of the counts that the recurrence gives, and of words compared and written. Assumes nothing.
-use mathlib.Core.Path.{◌≡◌, sym, ap, ◌∙◌}
+use mathlib.Core.Path.{◌≡◌, refl, sym, ap, ◌∙◌}
 use mathlib.Core.Bool.{Bool}
 use mathlib.Core.List.{List}
-use Prim.Native.Nat.{ℕ, ◌+◌, ◌%◌, ◌^◌, ◌≤◌, ◌<◌}
+use Prim.Native.Nat.{ℕ, ◌+◌, ◌*◌, ◌%◌, ◌^◌, ◌≤◌, ◌<◌}
 use native.Mathlib.Nat.{zero-add}
 use native.Mathlib.Decide.{ℕ_discrete}
 use native.Mathlib.Omega.{arith}
@@ -11,12 +11,15 @@ use lib.Bits.{bit_or, bit_xor, and_le_l, and_le_r, xor_add_and, xor_self}
 use lib.Dec.{eqb}
 use lib.ListN.{length, get_or, set, length-set}
 use lib.Seq.{get_or-set_same, get_or-set_other}
+use Rattle.sums.specs.Sum.{sum}
 use Rattle.sums.proofs.SumLaws.{delta_refl, delta_diff}
+use Rattle.word.specs.Bit.{bit}
+use Rattle.word.specs.Wrap.{plus}
 use Rattle.word.proofs.MaskLaws.{or_zero}
 use Rattle.answer.specs.Table.{Reflects}
-use Rattle.sheet_theory.specs.Layout.{row_at}
+use Rattle.sheet_theory.specs.Layout.{row_at, count_at}
 use Rattle.sheet.specs.Fill.{over}
-use Rattle.sheet.specs.Internal.{CountsFrom, CountsOf, CountsSummed, with_counts}
+use Rattle.sheet.specs.Internal.{CountsFrom, CountsOf, SumsBy, CountsSummed, with_counts}
 use Rattle.sheet_theory.specs.Internal.{successors_sum, CountsHold}
 use Rattle.sheet.proofs.WordsLaws.{counts_written}
 use Rattle.vertex_counts.specs.Internal.{SuccessorsSummed, SameWords}
@@ -35,6 +38,17 @@ successors_summed n s t i r small hi was e =
             | no d ↦ rw (get_or-set_other t i j r 0 d) (omega (arith, was.sums j h, delta_diff i j (λ q. d (sym q))))
           ];
     }
+
+-- the sums of the counts from the vertices of the mask, added to words of which the first n are 0
+pub summed_front : (n : ℕ) (s : List ℕ) (mask : ℕ) (z t : List ℕ) → length z ≡ 64 → ((j : ℕ) → j < n → get_or z j 0 ≡ 0) → SumsBy plus n s 0 n mask z t n
+    → CountsSummed n s mask t
+summed_front n s mask z t long zero was = record {
+  long = was.long ∙ long;
+  sums = λ j q.
+      let S : ℕ → ℕ = λ k. sum n (λ b. bit mask b * count_at n s b k) in
+      let e : plus (get_or z j 0) (S (0 + j)) ≡ S (0 + j) % 2 ^ 64 = rw (zero j q, zero-add) refl in
+      was.each j q (omega (arith, zero j q)) ∙ e ∙ ap (λ (k : ℕ). S k % 2 ^ 64) (zero-add j);
+}
 
 -- ---- words compared
 

@@ -12,17 +12,17 @@ ghost use Rattle.order.specs.Internal.{Ordered};
 use sheet::{Sheet, View};
 use word::Plus;
 
-// The counts from i as the recurrence gives them: one to i itself, and those from its successors added up, modulo 2^64. They are added up
-// here: an array that another function gave would be copied once more, and `validate` takes a tenth longer on 8 vertices.
+// The counts from i as the recurrence gives them, put in the first places of t: one to i itself, and those from its successors added up,
+// modulo 2^64. The array is lent, since one that is handed out is copied for each vertex, and `recount` takes half as long again on 4
+// vertices; one of its own would be cleared whole.
 // `RowsBelow` says of all rows that they are below 2^n; here it is asked of row i alone, as a clause.
-fn sum_successors(sheet: View, i: usize) -> [u64; Sheet::VERTICES]
+fn sum_successors(sheet: View, i: usize, t: &mut [u64; Sheet::VERTICES])
     requires { (i < sheet.n) × (row_at sheet.words.now i < 2 ^ sheet.n) }
-    ensures { SuccessorsSummed sheet.entry.n sheet.entry.words.now i result }
+    ensures { SuccessorsSummed sheet.entry.n sheet.entry.words.now i t.new }
 {
-    let mut t = [0u64; Sheet::VERTICES];
-    sheet.combine_counts::<Plus>(0, sheet.n, sheet.row(i), &mut t);
+    t[..sheet.n].fill(0);
+    sheet.combine_counts::<Plus>(0, sheet.n, sheet.row(i), t);
     t[i] = word::wrapping_add(t[i], 1);
-    t
 }
 
 // Internal: whether these words are the first of t. The differences of all are gathered and tested once: `==` tests word by word, and by it
@@ -38,13 +38,14 @@ pub fn same_words(words: &[u64], t: &[u64]) -> bool
     difference == 0
 }
 
-// Whether the counts from i satisfy the recurrence.
+// Whether the counts from i satisfy the recurrence. What it gives is put in t.
 #[tactic(auto, using(crate::proofs::CountsLaws::holds_same))]
-fn counts_hold(sheet: View, i: usize) -> bool
+fn counts_hold(sheet: View, i: usize, t: &mut [u64; Sheet::VERTICES]) -> bool
     requires { (i < sheet.n) × (row_at sheet.words.now i < 2 ^ sheet.n) }
     ensures { Reflects result (CountsHold sheet.entry.n sheet.entry.words.now i) }
 {
-    same_words(sheet.counts_from(i), &sum_successors(sheet, i))
+    sum_successors(sheet, i, t);
+    same_words(sheet.counts_from(i), t)
 }
 
 // Internal: whether all counts satisfy the recurrence.
@@ -52,8 +53,9 @@ pub fn all_counts_hold(sheet: View) -> bool
     requires { RowsBelow sheet.n sheet.words.now }
     ensures { Reflects result ((i : ℕ) → i < sheet.entry.n → CountsHold sheet.entry.n sheet.entry.words.now i) }
 {
+    let mut t = [0; Sheet::VERTICES];
     for i in 0..sheet.n {
-        if !counts_hold(sheet, i) {
+        if !counts_hold(sheet, i, &mut t) {
             return false;
         }
     }
@@ -61,12 +63,12 @@ pub fn all_counts_hold(sheet: View) -> bool
 }
 
 // The counts from v, written as the recurrence gives them. What writes a sheet takes n and the words: a struct that held the `&mut` would
-// have to say in each contract that it keeps both.
-fn fill_counts_from(n: usize, sheet: &mut [u64], v: usize)
+// have to say in each contract that it keeps both. They are worked out in t.
+fn fill_counts_from(n: usize, sheet: &mut [u64], v: usize, t: &mut [u64; Sheet::VERTICES])
     requires { (Shape n sheet.old) × (v < n) × (row_at sheet.old v < 2 ^ n) }
     ensures { sheet.new ≡ with_counts n sheet.old v 0 n (successors_sum n sheet.old v) }
 {
-    let t = sum_successors(View { n, words: sheet }, v);
+    sum_successors(View { n, words: sheet }, v, t);
     sheet::words::copy_words(&t[..n], sheet, sheet::layout::counts_start(n, v));
 }
 
@@ -77,7 +79,8 @@ pub fn fill_all_counts(n: usize, sheet: &mut [u64], order: &[usize])
     requires { (Shape n sheet.old) × (Ordered n sheet.old order.now) }
     ensures { sheet.new ≡ counted n sheet.old }
 {
+    let mut t = [0; Sheet::VERTICES];
     for &v in order {
-        fill_counts_from(n, sheet, v);
+        fill_counts_from(n, sheet, v, &mut t);
     }
 }

@@ -9,4 +9,4 @@ pub loop-left-preserved : goal.loop-left-preserved
 loop-left-preserved c = search (order_laws, c.in_ok-last.ensures)
 
 pub returns : goal.returns
-returns c = search order_laws
+returns c = rw c.as_slice.ensures.value (search order_laws)

@@ -37,4 +37,4 @@ returns c =
     let walk = rw (v.0, v.1) at (found_some c.walk.result NotValid c.in_ok-walk.walk _ _ c.walk.ensures (search rules)) in
     let way = unrank_arrived a.n (lent a.sheet.now) a.asked.from a.asked.to a.asked.k a.path.now c.in_ok-sheet.ensures.number (rw (v.0, v.1) at c.in_ok-check.ensures)
     _ _ walk (cc c.copy_from_slice.ensures.after) in
-    record { answer = rw (c.len-2.ensures.value) way.0; bytes = way.1 }
+    record { answer = way.0; bytes = way.1 }

@@ -6,5 +6,5 @@ use Rattle.vertex_counts.proofs.fill_counts_from.Goals as goal
 
 pub returns : goal.returns
 returns c =
-    let summed = c.sum_successors-t.ensures in
+    let summed = c.sum_successors.ensures in
     counts_filled _ _ _ _ _ _ c.counts_start.ensures summed (over_taken _ _ _ _ _ (omega (arith, summed.long, c.requires.0.high)) c.copy_words.ensures)
