@@ -1,10 +1,13 @@
 // The public calls, by the lines of the script. The numbers of a line are cast to masks and ranks: from `usize` to `u64` there is no `From`.
-use crate::command::{Command, NUMBERS, Numbers};
+use crate::command::{self, Command, Numbers};
 use crate::fault::Fault;
-use crate::lent::Lent;
+use crate::lent::{self, Lent};
 use crate::show;
 use arrayvec::ArrayVec;
 use sheet::{Answer, Sheet};
+
+// The most vertices of a path in a line: with each stands a space, and the whole input is shorter than its buffer.
+const PATH: usize = script::INPUT / 2;
 
 // The answer of a call that may write words.
 fn edit(call: Command<'_>, lent: &mut Lent) -> Option<Answer> {
@@ -25,12 +28,10 @@ fn edit(call: Command<'_>, lent: &mut Lent) -> Option<Answer> {
     })
 }
 
-// The rank of a path.
-fn rank(n: usize, words: &[u64], vertices: &[usize]) -> Result<Answer, Fault> {
-    let mut path = ArrayVec::<u8, NUMBERS>::new();
-    for vertex in vertices {
-        path.try_push(u8::try_from(*vertex)?)?;
-    }
+// The rank of the path whose vertices are the numbers of a line.
+fn rank(n: usize, words: &[u64], line: &[u8]) -> Result<Answer, Fault> {
+    let mut path = ArrayVec::<u8, PATH>::new();
+    command::read_numbers(line, &mut path)?;
     Ok(query::rank(n, words, path.as_slice()))
 }
 
@@ -43,7 +44,7 @@ fn ask(call: Command<'_>, n: usize, words: &[u64], bytes: &mut [u8]) -> Result<A
             query::reaches_without(n, words, from, to, i, j)
         }
         (b"unrank", &[from, to, k]) => query::unrank(n, words, from, to, k as u64, bytes),
-        (b"rank", vertices) => rank(n, words, vertices)?,
+        (b"rank", _) => rank(n, words, call.line())?,
         (b"write_plan", &[count]) => {
             let plan = bytes.get_mut(..count).ok_or(Fault::NotACommand)?;
             plan::write_plan(n, words, plan)
@@ -63,16 +64,23 @@ fn ask_lent(call: Command<'_>, lent: &mut Lent) -> Result<Answer, Fault> {
 }
 
 // A call with its lines: its line of the script with the answer, and, if it may write words, whether they are as before.
+// It is not inlined, so that its copy of the words takes stack only while it runs.
+#[inline(never)]
 pub fn shown(
     rt: &impl Print,
     line: &[u8],
     call: Command<'_>,
     lent: &mut Lent,
 ) -> Result<(), Fault> {
-    let before = lent.words.clone()?;
+    let mut before = [0; lent::WORDS];
+    let words = lent.words.as_slice();
+    before[..words.len()].copy_from_slice(words);
     if let Some(answer) = edit(call, lent) {
         show::answer(rt, line, answer)?;
-        println!(rt; "unchanged {}", u8::from(lent.words == before))?;
+        println!(rt;
+            "unchanged {}",
+            u8::from(before.starts_with(lent.words.as_slice()))
+        )?;
     } else {
         let answer = ask_lent(call, lent)?;
         show::answer(rt, line, answer)?;
@@ -89,6 +97,14 @@ pub fn quiet(line: &[u8], room: &mut Numbers, lent: &mut Lent) -> Result<(), Fau
     Ok(())
 }
 
+// The answer of a call that writes no word, of the sheet that the library makes.
+// It is not inlined, so that the sheet takes stack only while it runs.
+#[inline(never)]
+fn ask_made(call: Command<'_>, bytes: &mut [u8]) -> Result<Answer, Fault> {
+    let Sheet { words } = Sheet::new();
+    ask(call, Sheet::VERTICES, &words, bytes)
+}
+
 // A call that writes no word, of the sheet that the library makes, with its line.
 pub fn made(
     rt: &impl Print,
@@ -97,8 +113,7 @@ pub fn made(
     bytes: &mut [u8],
 ) -> Result<(), Fault> {
     let call = Command::parse(line, room)?;
-    let sheet = Sheet::new();
-    let answer = ask(call, Sheet::VERTICES, &sheet.words, bytes)?;
+    let answer = ask_made(call, bytes)?;
     show::answer(rt, line, answer)?;
     Ok(())
 }

@@ -1,12 +1,13 @@
 // The words of a line, and the commands that are a name with numbers.
 use crate::fault::Fault;
+use crate::lent;
 use arrayvec::ArrayVec;
 
-// The most numbers of a line: with each stands a space, and the whole input is shorter than its buffer.
-pub const NUMBERS: usize = script::INPUT / 2;
+// The most numbers of a command other than `rank`: `put` has a place, and at most a value for each word that can be lent.
+const NUMBERS: usize = 1 + lent::WORDS;
 
-// Room for the numbers of a line. It is lent to the commands, so that they are handed on without moving the numbers; and it stands beside
-// `Lent`, since a command holds it while what is lent is written.
+// Room for the numbers of such a command. It is lent to the commands, so that they are handed on without moving the numbers; and it stands
+// beside `Lent`, since a command holds it while what is lent is written.
 pub type Numbers = ArrayVec<usize, NUMBERS>;
 
 // Whether a byte stands between two words.
@@ -24,28 +25,49 @@ pub fn text(line: &[u8]) -> &[u8] {
     line.splitn(2, is_space).nth(1).unwrap_or_default()
 }
 
-// A name, and the numbers after it.
+// Replaces what is in a room by the numbers of a line: the words after its first, which have to be decimals that the room takes.
+pub fn read_numbers<N: TryFrom<usize> + Default + Drop, const MOST: usize>(
+    line: &[u8],
+    room: &mut ArrayVec<N, MOST>,
+) -> Result<(), Fault>
+where
+    N::Error: Drop,
+{
+    room.clear();
+    for word in line.split(is_space).skip(1) {
+        let number = script::decimal(word).ok_or(Fault::NotACommand)?;
+        room.try_push(N::try_from(number).ok().ok_or(Fault::NotACommand)?)?;
+    }
+    Ok(())
+}
+
+// A line, and the numbers after its name.
 #[derive(Clone, Copy)]
 pub struct Command<'a> {
-    name: &'a [u8],
+    line: &'a [u8],
     numbers: &'a [usize],
 }
 
 impl<'a> Command<'a> {
-    // The command of a line whose words after the first are all decimals. They are written to the room.
+    // The command of a line. Its numbers are written to the room; but those of `rank`, which may be more, stay in the line.
     pub fn parse(line: &'a [u8], room: &'a mut Numbers) -> Result<Command<'a>, Fault> {
-        room.clear();
-        for word in line.split(is_space).skip(1) {
-            room.try_push(script::decimal(word).ok_or(Fault::NotACommand)?)?;
+        match name(line) {
+            b"rank" => room.clear(),
+            _ => read_numbers(line, room)?,
         }
         Ok(Command {
-            name: name(line),
+            line,
             numbers: room.as_slice(),
         })
     }
 
     // The name and the numbers, to be matched.
     pub fn parts(self) -> (&'a [u8], &'a [usize]) {
-        (self.name, self.numbers)
+        (name(self.line), self.numbers)
+    }
+
+    // The whole line.
+    pub fn line(self) -> &'a [u8] {
+        self.line
     }
 }

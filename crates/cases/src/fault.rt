@@ -1,6 +1,5 @@
 // Why a line of the script is not obeyed.
 use arrayvec::CapacityError;
-use std::alloc::AllocError;
 use std::io;
 use std::num::TryFromIntError;
 
@@ -8,7 +7,7 @@ use std::num::TryFromIntError;
 pub enum Fault {
     // The line is no command, or a number in it is too great.
     NotACommand,
-    // A line can't be printed, or a copy can't be made.
+    // A line can't be printed.
     Io(io::Error),
 }
 
@@ -27,11 +26,5 @@ impl From<TryFromIntError> for Fault {
 impl From<io::Error> for Fault {
     fn from(error: io::Error) -> Fault {
         Fault::Io(error)
-    }
-}
-
-impl From<AllocError> for Fault {
-    fn from(error: AllocError) -> Fault {
-        Fault::Io(error.into())
     }
 }

@@ -4,10 +4,13 @@ use arrayvec::ArrayVec;
 use std::iter;
 
 // The words of a sheet of 65 vertices, were there one: no case lends more.
-const WORDS: usize = 65 + 65 * 65;
+pub const WORDS: usize = 65 + 65 * 65;
 
 // One record more than the longest plan has: no case lends more bytes.
 const BYTES: usize = plan::MOST_BYTES + 8;
+
+// How many copies of a value are appended at once.
+const RUN: usize = 256;
 
 // What the calls are told and lent, and the words kept.
 #[derive(Drop)]
@@ -24,16 +27,18 @@ pub struct Lent {
     kept: [u64; WORDS],
 }
 
-// Replaces the items by so many copies of the value, if there is room for them.
+// Replaces the items by so many copies of a value, if there is room for them. The value is given as `RUN` copies of it.
 fn fill<T: Copy + Default + Drop, const MOST: usize>(
     items: &mut ArrayVec<T, MOST>,
     count: usize,
-    value: T,
+    copies: &[T],
 ) -> Result<(), Fault> {
     items.clear();
-    for _ in 0..count {
-        items.try_push(value)?;
+    for _ in 0..count / RUN {
+        items.try_extend_from_slice(copies)?;
     }
+    let rest = copies.get(..count % RUN).ok_or(Fault::NotACommand)?;
+    items.try_extend_from_slice(rest)?;
     Ok(())
 }
 
@@ -51,7 +56,7 @@ impl Lent {
 
     // Lends so many words of this value.
     pub fn lend_words(&mut self, count: usize, value: u64) -> Result<(), Fault> {
-        fill(&mut self.words, count, value)?;
+        fill(&mut self.words, count, &[value; RUN])?;
         self.value = value;
         Ok(())
     }
@@ -75,7 +80,7 @@ impl Lent {
 
     // Lends so many bytes of this value.
     pub fn lend_bytes(&mut self, count: usize, value: u8) -> Result<(), Fault> {
-        fill(&mut self.bytes, count, value)
+        fill(&mut self.bytes, count, &[value; RUN])
     }
 
     // Lends the bytes of a text, with a line feed in place of each `/`.
