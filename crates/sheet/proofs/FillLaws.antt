@@ -43,6 +43,9 @@ module _ (l : List ℕ) (p f : ℕ → ℕ) where
   puts_more w m k v ew ek ev =
       ap (λ (x : List ℕ). set x k v) ew ∙ ap₂ (λ (x y : ℕ). set (puts l p f m) x y) ek ev ∙ ap (λ (x : ℕ). puts l p f x) (sym (add-one m))
 
+  pub puts_done : (w : List ℕ) (m n : ℕ) → w ≡ puts l p f m → m ≡ n → w ≡ puts l p f n
+  puts_done w m n ew e = ew ∙ ap (λ (x : ℕ). puts l p f x) e
+
 -- one store more, where what is stored is made of the word that is there
 pub puts_change : (l : List ℕ) (p : ℕ → ℕ) (g : ℕ → ℕ → ℕ) (w : List ℕ) (m k v : ℕ) → w ≡ puts l p (λ j. g j (get_or l (p j) 0)) m → k ≡ p m
     → ((j : ℕ) → j < m → p m ≡ p j → ⊥) → v ≡ g m (get_or w k 0) → set w k v ≡ puts l p (λ j. g j (get_or l (p j) 0)) (m + 1)
@@ -81,3 +84,10 @@ over_only l t b f m h long inside outside = ext_get_or 0 t (over l b f m) (long 
                 subst (λ (x : ℕ). get_or t x 0 ≡ get_or (over l b f m) x 0) p' (inside (k - b) (omega arith) ∙ sym (over_in l b f m (k - b) h (omega arith)))
           ]
         ]
+
+-- stored over what was stored
+pub over_over : (l : List ℕ) (b : ℕ) (f g : ℕ → ℕ) (m : ℕ) → b + m ≤ length l → over (over l b f m) b g m ≡ over l b g m
+over_over l b f g m h =
+    let long = length_puts l (λ j. b + j) f m in
+    over_only l _ b g m h (length_puts _ (λ j. b + j) g m ∙ long)
+    (λ j q. over_in (over l b f m) b g m j (omega arith) q) (λ k q. over_out (over l b f m) b g m k q ∙ over_out l b f m k q)
