@@ -97,11 +97,20 @@ pub fn quiet(line: &[u8], room: &mut Numbers, lent: &mut Lent) -> Result<(), Fau
     Ok(())
 }
 
+// The words of the sheet that the library makes, put in what is lent. It is not inlined, so that what is copied on the way takes stack only
+// while it runs.
+#[inline(never)]
+fn put_made(words: &mut [u64; Sheet::WORDS]) {
+    let sheet = Sheet::new();
+    words.copy_from_slice(&sheet.words);
+}
+
 // The answer of a call that writes no word, of the sheet that the library makes.
 // It is not inlined, so that the sheet takes stack only while it runs.
 #[inline(never)]
 fn ask_made(call: Command<'_>, bytes: &mut [u8]) -> Result<Answer, Fault> {
-    let Sheet { words } = Sheet::new();
+    let mut words = [0; Sheet::WORDS];
+    put_made(&mut words);
     ask(call, Sheet::VERTICES, &words, bytes)
 }
 

@@ -1,10 +1,9 @@
 // The words of a line, and the commands that are a name with numbers.
 use crate::fault::Fault;
-use crate::lent;
 use arrayvec::ArrayVec;
 
-// The most numbers of a command other than `rank`: `put` has a place, and at most a value for each word that can be lent.
-const NUMBERS: usize = 1 + lent::WORDS;
+// The most numbers of a command other than `put` and `rank`.
+const NUMBERS: usize = 4;
 
 // Room for the numbers of such a command. It is lent to the commands, so that they are handed on without moving the numbers; and it stands
 // beside `Lent`, since a command holds it while what is lent is written.
@@ -49,10 +48,10 @@ pub struct Command<'a> {
 }
 
 impl<'a> Command<'a> {
-    // The command of a line. Its numbers are written to the room; but those of `rank`, which may be more, stay in the line.
+    // The command of a line. Its numbers are written to the room; but those of `put` and `rank`, which may be more, stay in the line.
     pub fn parse(line: &'a [u8], room: &'a mut Numbers) -> Result<Command<'a>, Fault> {
         match name(line) {
-            b"rank" => room.clear(),
+            b"put" | b"rank" => room.clear(),
             _ => read_numbers(line, room)?,
         }
         Ok(Command {

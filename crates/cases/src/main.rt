@@ -31,11 +31,27 @@ mod fault;
 mod lent;
 mod show;
 
+use arrayvec::ArrayVec;
 use command::{Command, Numbers};
 use fault::Fault;
 use lent::Lent;
 use sheet::Sheet;
 use std::io;
+
+// The most numbers of `put`: a place, and a value for each word that can be lent.
+const PUT: usize = 1 + lent::WORDS;
+
+// Values stored in the lent words, from a place on: a place and one value or more, which are the numbers of a line.
+// It is not inlined, so that the numbers take stack only while it runs.
+#[inline(never)]
+fn put(line: &[u8], lent: &mut Lent) -> Result<(), Fault> {
+    let mut numbers = ArrayVec::<usize, PUT>::new();
+    command::read_numbers(line, &mut numbers)?;
+    match numbers.as_slice() {
+        &[place, ref values @ ..] if !values.is_empty() => lent.put(place, values),
+        _ => Err(Fault::NotACommand),
+    }
+}
 
 // A command that is a name with numbers. A number that is stored as a word is cast: from `usize` to `u64` there is no `From`.
 fn obey_command(
@@ -48,7 +64,7 @@ fn obey_command(
     match command.parts() {
         (b"n", &[n]) => lent.vertices = n,
         (b"words", &[count, value]) => lent.lend_words(count, value as u64)?,
-        (b"put", &[place, ref values @ ..]) if !values.is_empty() => lent.put(place, values)?,
+        (b"put", _) => put(line, lent)?,
         (b"bytes", &[count, value]) => lent.lend_bytes(count, u8::try_from(value)?)?,
         (b"keep", []) => lent.keep(),
         (b"same", []) => println!(rt; "same words {}", u8::from(lent.are_kept()))?,

@@ -5,7 +5,6 @@ use mathlib.Core.Logic.{inl, inr}
 use mathlib.Core.Bool.{◌||◌}
 use mathlib.Core.List.{[]}
 use Prim.Native.Nat.{ℕ, ◌≤◌, ◌<◌}
-use native.Mathlib.Nat.{lt_of_not-le}
 use native.Mathlib.Decide.{dec_lt, ℕ_discrete}
 use native.Mathlib.Omega.{arith}
 use lib.Dec.{ltb}
@@ -95,21 +94,6 @@ module _ (n i j : ℕ) where
   -- its way on
   pub vertex_good : i < n → j < n → First (vertex_conditions n i j []) 0
   vertex_good hi hj = inr (λ c. elim c [ inl l ↦ omega arith | inr l ↦ omega arith ], refl)
-
-  -- 0 says that both are there
-  pub vertex_below : (cs : Conditions) → First (vertex_conditions n i j cs) 0 → (i < n) × (j < n)
-  vertex_below cs f =
-      let r = first_not (vertex_conditions n i j cs) 0 f 3 refl in
-      (lt_of_not-le (λ l. r (inl l)), lt_of_not-le (λ l. r (inr l)))
-
-module _ (n : ℕ) (s : Lent) (i j : ℕ) where
-  -- 0 says that the sheet has the shape and both vertices
-  pub vertices_ready : (k : ℕ) → First (sized n s (vertex_conditions n i j [])) k → k ≡ 0 → Lends n s × (i < n) × (j < n)
-  vertices_ready k f z =
-      let g : First (sized n s (vertex_conditions n i j [])) 0 = rw z at f in
-      let h = accepted_shape n s (vertex_conditions n i j []) g in
-      let below = vertex_below n i j [] (shape_rest n s h (vertex_conditions n i j []) 0 g) in
-      (h, below.0, below.1)
 
 -- ---- the ways out of a call
 
